@@ -1,0 +1,9 @@
+pub mod Parity
+pub mod Sums
+pub mod Find
+pub mod Drives
+pub mod Cuts
+pub mod First
+pub mod Fill
+pub mod Numbers
+pub mod Limits
