@@ -9,7 +9,7 @@ use Rattle.std.specs.declared.option.Option.{Option}
 use Rattle.std.specs.declared.option.Option.the-variants.{Some, None}
 use Rattle.std.proofs.shelf.Tests.{cases-bool, cases-lt, both-ways, le-leb, lt-leb, leb-true, not-from-true, not-from-false, not-true, not-false}
 use Rattle.road.specs.Roads.{pick}
-use Rattle.road.specs.Refusals.{first, unless, unless-all}
+use Rattle.road.specs.First.{first, unless, unless-all}
 
 -- no place before it passes
 pub first-before : (n : ℕ) (p : ℕ → Bool) (j : ℕ) → j < first n p → p j ≡ false
@@ -58,21 +58,30 @@ pub first-none : (n : ℕ) (p : ℕ → Bool) → ((j : ℕ) → j < n → p j �
 first-none n p none =
     ⊎-elim (λ lt. absurd (both-ways (p (first n p)) (none (first n p) lt) (first-passes n p lt))) (λ ge. omega (arith, first-most n p)) (cases-lt (first n p) n)
 
-module _ (n : ℕ) (kept : ℕ → Bool) (number : ℕ) where
+module _ {B : Type 0} (n : ℕ) (kept : ℕ → Bool) (wrong : ℕ → B) where
   abbrev broken : ℕ → Bool
   broken k = not (kept k)
 
-  abbrev at : ℕ
-  at = first n broken
+  abbrev place : ℕ
+  place = first n broken
 
-  -- nothing is refused where every place keeps the rule
-  pub all-kept : ((k : ℕ) → k < n → kept k ≡ true) → unless-all n kept number ≡ None
+  -- nothing is wrong where every place keeps the rule
+  pub all-kept : ((k : ℕ) → k < n → kept k ≡ true) → unless-all n kept wrong ≡ None
   all-kept all =
       let e = first-none n broken (λ k h. not-from-true (kept k) (all k h)) in
-      ap (λ b. unless b number at) (le-leb n at (omega arith))
+      ap (λ b. unless b (wrong place)) (le-leb n place (omega arith))
 
-  -- a place is refused where it breaks the rule and those before it keep it
-  pub first-broken : (k : ℕ) → k < n → ((j : ℕ) → j < k → kept j ≡ true) → kept k ≡ false → unless-all n kept number ≡ Some (number, k)
+  -- a place is wrong that breaks the rule where those before it keep it
+  pub first-broken : (k : ℕ) → k < n → ((j : ℕ) → j < k → kept j ≡ true) → kept k ≡ false → unless-all n kept wrong ≡ Some (wrong k)
   first-broken k h before here =
       let e = first-is n broken k h (λ j i. not-from-true (kept j) (before j i)) (not-from-false (kept k) here) in
-      ap₂ (λ b p. unless b number p) (lt-leb n at (omega arith)) e
+      ap₂ (λ b p. unless b (wrong p)) (lt-leb n place (omega arith)) e
+
+-- tests that agree below n have the same first place
+pub first-ext : (n : ℕ) (p q : ℕ → Bool) → ((k : ℕ) → k < n → p k ≡ q k) → first n p ≡ first n q
+unfolding first
+first-ext zero p q e = refl
+first-ext (suc n) p q e = ap₂ (λ b m. pick b 0 (suc m)) (e 0 (omega arith)) (first-ext n (λ k. p (suc k)) (λ k. q (suc k)) (λ k h. e (suc k) (omega arith)))
+
+pub unless-all-ext : {B : Type 0} (n : ℕ) (p q : ℕ → Bool) (wrong : ℕ → B) → ((k : ℕ) → k < n → p k ≡ q k) → unless-all n p wrong ≡ unless-all n q wrong
+unless-all-ext n p q wrong e = ap (λ m. unless (leb n m) (wrong m)) (first-ext n (λ k. not (p k)) (λ k. not (q k)) (λ k h. ap not (e k h)))

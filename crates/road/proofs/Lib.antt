@@ -3,6 +3,11 @@ pub mod Sums
 pub mod Find
 pub mod Drives
 pub mod Cuts
+pub mod Legs
+pub mod Reached
+pub mod Faults
+pub mod Models
+pub mod Growth
 pub mod First
 pub mod Fill
 pub mod Numbers

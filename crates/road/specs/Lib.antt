@@ -3,6 +3,8 @@ pub mod Counts
 pub mod Limits
 pub mod Reach
 pub mod Numbers
+pub mod First
 pub mod Refusals
-pub mod Faults
 pub mod Model
+pub mod Faults
+pub mod Growth

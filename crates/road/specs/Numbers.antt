@@ -1,5 +1,5 @@
 -- Towns and legs as numbers. Assumes nothing: these are definitions.
-use mathlib.Core.List.{List, [], _∷_}
+use mathlib.Core.List.{List, [], _∷_, map}
 use Prim.Native.Nat.{ℕ, zero, suc, _/_, _%_}
 use lib.Dec.{eqb}
 use lib.ListN.{length, getD, drop}
@@ -18,5 +18,4 @@ abbrev pub leg-in : ℕ → Leg
 leg-in x = record { by = x / 2; back = eqb (x % 2) 1 }
 
 abbrev pub legs-in : List ℕ → List Leg
-legs-in [] = []
-legs-in (x ∷ xs) = leg-in x ∷ legs-in xs
+legs-in xs = map leg-in xs

@@ -23,13 +23,21 @@ impl Street {
 fn check_crossings(crossings: u64) -> Result<(), Refusal>
     ensures { λ r. ⌜ Answers (crossings-refusal crossings) (λ _. (1 ≤ crossings) × (crossings ≤ 100)) r ⌝ }
 {
-    if crossings >= 1 && crossings <= 100 { Ok(()) } else { Err(Refusal::Crossings(crossings)) }
+    if crossings >= 1 && crossings <= 100 {
+        Ok(())
+    } else {
+        Err(Refusal::Crossings(crossings))
+    }
 }
 
 fn check_numbers(numbers: &[u64]) -> Result<(), Refusal>
     ensures { λ r. ⌜ Answers (numbers-refusal (now (numbers .entry))) (λ _. length (now (numbers .entry)) / 3 ≤ 300) r ⌝ }
 {
-    if numbers.len() % 3 == 0 && numbers.len() / 3 <= 300 { Ok(()) } else { Err(Refusal::Numbers(numbers.len() as u64)) }
+    if numbers.len() % 3 == 0 && numbers.len() / 3 <= 300 {
+        Ok(())
+    } else {
+        Err(Refusal::Numbers(numbers.len() as u64))
+    }
 }
 
 // Street k of the numbers.
@@ -38,7 +46,11 @@ fn street_at(numbers: &[u64], k: usize) -> Street
     ensures { λ r. ⌜ ((n : ℕ) → r ≡ street (town-in n (now (numbers .entry))) k) ⌝ }
 {
     let at = 3 * k;
-    Street { one: numbers[at] as usize, two: numbers[at + 1] as usize, long: numbers[at + 2] }
+    Street {
+        one: numbers[at] as usize,
+        two: numbers[at + 1] as usize,
+        long: numbers[at + 2],
+    }
 }
 
 fn check_streets(crossings: usize, numbers: &[u64]) -> Result<(), Refusal>
@@ -55,13 +67,21 @@ fn check_streets(crossings: usize, numbers: &[u64]) -> Result<(), Refusal>
 fn check_depot(crossings: u64, depot: u64) -> Result<(), Refusal>
     ensures { λ r. ⌜ Answers (depot-refusal crossings depot) (λ _. depot < crossings) r ⌝ }
 {
-    if depot < crossings { Ok(()) } else { Err(Refusal::Depot(depot)) }
+    if depot < crossings {
+        Ok(())
+    } else {
+        Err(Refusal::Depot(depot))
+    }
 }
 
 fn no_streets() -> [Street; 300]
     ensures { λ r. ⌜ r ≡ replicate 300 no-street ⌝ }
 {
-    [Street { one: 0, two: 0, long: 0 }; 300]
+    [Street {
+        one: 0,
+        two: 0,
+        long: 0,
+    }; 300]
 }
 
 fn read_streets(numbers: &[u64]) -> [Street; 300]
@@ -86,6 +106,11 @@ impl Town {
         check_streets(crossings as usize, numbers)?;
         check_depot(crossings, depot)?;
         let streets = read_streets(numbers);
-        Ok(Town { crossings: crossings as usize, depot: depot as usize, count: numbers.len() / 3, streets })
+        Ok(Town {
+            crossings: crossings as usize,
+            depot: depot as usize,
+            count: numbers.len() / 3,
+            streets,
+        })
     }
 }

@@ -16,7 +16,7 @@ returns-then-not-is-within c =
     let n = c .args .crossings in
     let t : Town = town-in n (c .args .numbers .now) in
     let e = size-in n (c .args .numbers .now) in
-    first-broken _ (λ k. within n (street t k)) 3 (c .loop-k .k) (omega arith) (c .loop-k .inv)
+    first-broken _ (λ k. within n (street t k)) (λ k. (3, k)) (c .loop-k .k) (omega arith) (c .loop-k .inv)
     (sym (ap (within n) (c .street-at .ensures n)) ∙ sym (c .if-not-is-within .ensures tt))
 
 pub loop-k-again : need.loop-k-again
@@ -28,4 +28,4 @@ returns c =
     let n = c .args .crossings in
     let t : Town = town-in n (c .args .numbers .now) in
     let e = size-in n (c .args .numbers .now) in
-    (all-kept _ (λ k. within n (street t k)) 3 (λ k h. c .loop-k .inv k (omega arith)), λ k h. within-true n (street t k) (c .loop-k .inv k (omega arith)))
+    (all-kept _ (λ k. within n (street t k)) (λ k. (3, k)) (λ k h. c .loop-k .inv k (omega arith)), λ k h. within-true n (street t k) (c .loop-k .inv k (omega arith)))

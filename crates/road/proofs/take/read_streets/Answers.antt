@@ -10,9 +10,9 @@ use Rattle.road.proofs.take.read_streets.Needs as need
 
 pub loop-k-again : need.loop-k-again
 loop-k-again c = (
-    simp length-set (c .loop-k .inv .0),
-    fill-more no-street (street (town-in 0 (c .args .numbers .now))) (c .loop-k .streets) (c .loop-k .k) (c .street-at .result) (omega arith) (c .loop-k .inv .1) (c .street-at .ensures 0),
-  )
+  simp length-set (c .loop-k .inv .0),
+  fill-more no-street (street (town-in 0 (c .args .numbers .now))) (c .loop-k .streets) (c .loop-k .k) (c .street-at .result) (omega arith) (c .loop-k .inv .1) (c .street-at .ensures 0),
+)
 
 pub returns : need.returns
 returns c = record {

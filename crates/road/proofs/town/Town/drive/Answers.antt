@@ -1,0 +1,37 @@
+use mathlib.Core.Path.{_≡_, sym, ap, subst, _∙_}
+use mathlib.Core.Bool.{Bool, true}
+use Prim.Native.Nat.{ℕ, _+_, _<_}
+use native.Mathlib.Omega.{arith}
+use lib.ListN.{set}
+use Rattle.road.specs.Roads.{into}
+use Rattle.road.specs.Model.{model}
+use Rattle.road.proofs.Models.{size-model}
+use Rattle.road.proofs.Legs.{Along, along-start, along-whole, along-end, along-stuck, along-more, begins-low}
+use Rattle.road.proofs.town.Town.drive.Needs as need
+
+pub loop-i-holds : need.loop-i-holds
+loop-i-holds c =
+    let t = model (c .args .self .now) in
+    subst (Along t (c .args .start) (c .args .legs .now) 0 (c .args .start)) (sym (c .no-marks-marks .ensures)) (along-start t (c .args .start) (c .args .legs .now))
+
+pub returns-then-not-begins : need.returns-then-not-begins
+returns-then-not-begins c =
+    along-stuck (model (c .args .self .now)) (c .args .start) (c .args .legs .now) (c .loop-i .i) (c .loop-i .at) (c .loop-i .marks) (c .loop-i .inv)
+    (c .of-leg .result) (c .loop-i-test .taken) (c .of-leg .ensures) (sym (c .if-not-begins .ensures tt))
+
+pub loop-i-again : need.loop-i-again
+loop-i-again c =
+    let t = c .args .self .now in
+    let begins = sym (c .if-not-begins .ensures tt) in
+    let low = begins-low (model t) (c .loop-i .at) (c .of-leg .result) begins in
+    let by : c .of-leg .result .by < 300 = omega (arith, size-model t) in
+    subst (λ w. Along (model t) (c .args .start) (c .args .legs .now) (c .loop-i .i + 1) w (set (c .loop-i .marks) (c .of-leg .result .by) true)) (sym (c .end-of-at .ensures))
+    (along-more (model t) (c .args .start) (c .args .legs .now) (c .loop-i .i) (c .loop-i .at) (c .loop-i .marks) (c .loop-i .inv)
+    (c .of-leg .result) (c .loop-i-test .taken) (c .of-leg .ensures) begins by)
+
+pub returns : need.returns
+returns c =
+    let t = model (c .args .self .now) in (
+      along-whole t (c .args .start) (c .args .legs .now) (c .loop-i .i) (c .loop-i .at) (c .loop-i .marks) (c .loop-i .inv) (c .loop-i-test .left) (omega arith),
+      along-end t (c .args .start) (c .args .legs .now) (c .loop-i .i) (c .loop-i .at) (c .loop-i .marks) (c .loop-i .inv) (c .loop-i-test .left),
+    )
