@@ -1,15 +1,16 @@
 -- The first place below a number that passes a test, and refusals there. Assumes nothing.
 use mathlib.Core.Path.{_≡_, refl, sym, ap, ap₂, _∙_}
-use mathlib.Core.Bool.{Bool, true, false, not}
-use mathlib.Core.Logic.{_⊎_, inl, inr, ⊎-elim}
+use mathlib.Core.Bool.{Bool, true, false, not, _&&_}
+use mathlib.Core.Logic.{_⊎_, inl, inr, ⊎-elim, _↔_}
 use Prim.Native.Nat.{ℕ, zero, suc, _≤_, _<_}
 use native.Mathlib.Omega.{arith}
 use lib.Dec.{leb}
 use Rattle.std.specs.declared.option.Option.{Option}
 use Rattle.std.specs.declared.option.Option.the-variants.{Some, None}
-use Rattle.std.proofs.shelf.Tests.{cases-bool, cases-lt, both-ways, le-leb, lt-leb, leb-true, not-from-true, not-from-false, not-true, not-false}
+use Rattle.std.proofs.shelf.Tests.{cases-lt, both-ways, false≢true, le-leb, lt-leb, leb-true, leb-false, and-parts, and-from, not-from-true, not-from-false, not-true, not-false}
 use Rattle.road.specs.Roads.{pick}
-use Rattle.road.specs.First.{first, unless, unless-all}
+use Rattle.std.specs.Options.{isSome, valueOr}
+use Rattle.road.specs.First.{first, unless, unless-all, _then_}
 
 -- no place before it passes
 pub first-before : (n : ℕ) (p : ℕ → Bool) (j : ℕ) → j < first n p → p j ≡ false
@@ -85,3 +86,53 @@ first-ext (suc n) p q e = ap₂ (λ b m. pick b 0 (suc m)) (e 0 (omega arith)) (
 
 pub unless-all-ext : {B : Type 0} (n : ℕ) (p q : ℕ → Bool) (wrong : ℕ → B) → ((k : ℕ) → k < n → p k ≡ q k) → unless-all n p wrong ≡ unless-all n q wrong
 unless-all-ext n p q wrong e = ap (λ m. unless (leb n m) (wrong m)) (first-ext n (λ k. not (p k)) (λ k. not (q k)) (λ k h. ap not (e k h)))
+
+-- a test and what it tests
+abbrev pub Tests : Bool → Type 0 → Type 0
+Tests b P = (b ≡ true) ↔ P
+
+pub tests-not : (b : Bool) (P : Type 0) → Tests b P → (b ≡ false) ↔ (P → ⊥)
+tests-not true P h = (λ e. absurd (both-ways true e refl), λ n. absurd (n (h .0 refl)))
+tests-not false P h = (λ _ p. both-ways false refl (h .1 p), λ _. refl)
+
+pub tests-and : (a b : Bool) (P Q : Type 0) → Tests a P → Tests b Q → Tests (a && b) (P × Q)
+tests-and a b P Q p q = (λ e. let r = and-parts a b e in (p .0 (r .0), q .0 (r .1)), λ r. and-from a b (p .1 (r .0)) (q .1 (r .1)))
+
+module _ (n : ℕ) (kept : ℕ → Bool) where
+  abbrev breaks : ℕ → Bool
+  breaks k = not (kept k)
+
+  -- the test whether all places keep a rule
+  pub tests-all : Tests (leb n (first n breaks)) ((k : ℕ) → k < n → kept k ≡ true)
+  tests-all = (
+    λ e k h. not-false (kept k) (first-before n breaks k (omega (arith, leb-true n (first n breaks) e))),
+    λ all. le-leb n (first n breaks) (omega (arith, first-none n breaks (λ k h. not-from-true (kept k) (all k h)))),
+  )
+
+  -- the first that does not
+  pub tests-first : (k : ℕ) → ((leb n (first n breaks) ≡ false) × (k ≡ first n breaks)) ↔ ((k < n) × (kept k ≡ false) × ((j : ℕ) → j < k → kept j ≡ true))
+  tests-first k = (
+    λ p.
+        let low = leb-false n (first n breaks) (p .0) in
+        (omega arith, rw (p .1) (not-true (kept (first n breaks)) (first-passes n breaks low)), λ j h. not-false (kept j) (first-before n breaks j (omega arith))),
+    λ p.
+        let e = first-is n breaks k (p .0) (λ j h. not-from-true (kept j) (p .2 j h)) (not-from-false (kept k) (p .1)) in
+        (lt-leb n (first n breaks) (omega arith), sym e),
+  )
+
+-- what is wrong first, and what is wrong later
+pub unless-some : {B : Type 0} (kept : Bool) (a w : B) → unless kept a ≡ Some w → (kept ≡ false) × (a ≡ w)
+unless-some true a w e = absurd (false≢true (ap isSome e))
+unless-some false a w e = (refl, ap (λ o. valueOr o a) e)
+
+pub unless-none : {B : Type 0} (kept : Bool) (a : B) → (unless kept a ≡ None) ↔ (kept ≡ true)
+unless-none true a = (λ _. refl, λ _. refl)
+unless-none false a = (λ e. absurd (false≢true (sym (ap isSome e))), λ e. absurd (both-ways false refl e))
+
+pub then-some : {B : Type 0} (kept : Bool) (a w : B) (rest : Option B) → unless kept a then rest ≡ Some w → ((kept ≡ false) × (a ≡ w)) ⊎ ((kept ≡ true) × (rest ≡ Some w))
+then-some true a w rest e = inr (refl, e)
+then-some false a w rest e = inl (unless-some false a w e)
+
+pub then-none : {B : Type 0} (a b : Option B) → (a then b ≡ None) ↔ ((a ≡ None) × (b ≡ None))
+then-none None b = (λ e. (refl, e), λ r. r .1)
+then-none (Some w) b = (λ e. absurd (false≢true (sym (ap isSome e))), λ r. absurd (false≢true (sym (ap isSome (r .0)))))

@@ -1,5 +1,5 @@
 -- Legs one by one: where they begin and end, and how far a list of them is a drive. Assumes nothing.
-use mathlib.Core.Path.{_≡_, refl, sym, ap, ap₂, _∙_}
+use mathlib.Core.Path.{_≡_, refl, sym, ap, ap₂, subst, _∙_}
 use mathlib.Core.Bool.{Bool, true, false}
 use mathlib.Core.List.{List, [], _∷_, _++_}
 use mathlib.Core.Logic.{⊎-elim}
@@ -7,9 +7,9 @@ use Prim.Native.Nat.{ℕ, suc, _+_, _≤_, _<_}
 use native.Mathlib.Omega.{arith}
 use lib.Dec.{ltb, eqb}
 use lib.ListN.{length, getD, set, take, drop, replicate}
-use Rattle.std.proofs.shelf.Lists.{length-set, length-replicate, length-map, getD-replicate, getD-past, getD-set-same, getD-set-other, drop-more, drop-all, take-all, map-more}
-use Rattle.std.proofs.shelf.Tests.{cases-eq, cases-lt, lt-ltb, ltb-true, le-leb, lt-leb, and-parts}
-use Rattle.road.specs.Roads.{pick, Street, Town, street, Leg, from, into, times}
+use Rattle.std.proofs.shelf.Lists.{length-set, length-replicate, length-map, getD-replicate, getD-past, getD-set-same, getD-set-other, drop-more, drop-all, take-all, take-append-drop, append-nil, length-take-le, map-more}
+use Rattle.std.proofs.shelf.Tests.{cases-eq, cases-lt, lt-ltb, ltb-true, eqb-true, eq-eqb, le-leb, lt-leb, and-parts}
+use Rattle.road.specs.Roads.{pick, Street, Town, street, Leg, from, into, times, Drive, stay, go}
 use Rattle.road.specs.Counts.{size}
 use Rattle.road.specs.Numbers.{leg-in, legs-in}
 use Rattle.std.specs.declared.option.Option.the-variants.{Some, None}
@@ -17,6 +17,8 @@ use Rattle.road.specs.declared.fault.Fault.the-variants.{Leg as AtLeg}
 use Rattle.road.specs.First.{unless}
 use Rattle.road.specs.Faults.{begins, driven, end, leg-fault, Driven}
 use Rattle.road.specs.Model.{marked}
+use Rattle.road.specs.Laws.{Begins, no-leg}
+use Rattle.road.proofs.First.{Tests, tests-and}
 use Rattle.road.proofs.Drives.{times-first, times-other, times-append}
 
 pub from-is : (t : Town) (l : Leg) (b : Bool) (s : Street) → l .back ≡ b → s ≡ street t (l .by) → pick b (s .two) (s .one) ≡ from t l
@@ -97,3 +99,64 @@ module _ (t : Town) (v : ℕ) (xs : List ℕ) (i w : ℕ) (ms : List Bool) (a : 
 -- a leg that begins somewhere is of a street
 pub begins-low : (t : Town) (v : ℕ) (l : Leg) → begins t v l ≡ true → l .by < size t
 begins-low t v l b = ltb-true (l .by) (size t) (and-parts (ltb (l .by) (size t)) (eqb (from t l) v) b .0)
+
+pub tests-begins : (t : Town) (v : ℕ) (l : Leg) → Tests (begins t v l) (Begins t v l)
+tests-begins t v l =
+    tests-and (ltb (l .by) (size t)) (eqb (from t l) v) (l .by < size t) (from t l ≡ v) (ltb-true (l .by) (size t), lt-ltb (l .by) (size t))
+    (eqb-true (from t l) v, eq-eqb (from t l) v)
+
+-- the legs up to the first fault are a drive
+pub driven-drive : (t : Town) (v : ℕ) (ls : List Leg) → Drive t v (take (driven t v ls) ls) (end t v (take (driven t v ls) ls))
+unfolding driven end
+driven-drive t v [] = stay v
+driven-drive t v (l ∷ ls) = at (begins t v l) refl (driven-drive t (into t l) ls)
+  where
+    at : (b : Bool) → begins t v l ≡ b → Drive t (into t l) (take (driven t (into t l) ls) ls) (end t (into t l) (take (driven t (into t l) ls) ls)) →
+        Drive t v (take (pick b (suc (driven t (into t l) ls)) 0) (l ∷ ls)) (end t v (take (pick b (suc (driven t (into t l) ls)) 0) (l ∷ ls)))
+    at true e d = let b = tests-begins t v l .0 e in go v _ l _ (b .0) (b .1) d
+    at false e d = stay v
+
+-- and the next does not begin where they end
+pub driven-stuck : (t : Town) (v : ℕ) (ls : List Leg) → driven t v ls < length ls →
+    begins t (end t v (take (driven t v ls) ls)) (getD ls (driven t v ls) no-leg) ≡ false
+unfolding driven end
+driven-stuck t v [] h = absurd (omega arith)
+driven-stuck t v (l ∷ ls) h = at (begins t v l) refl h (driven-stuck t (into t l) ls)
+  where
+    at : (b : Bool) → begins t v l ≡ b → pick b (suc (driven t (into t l) ls)) 0 < suc (length ls)
+        → (driven t (into t l) ls < length ls → begins t (end t (into t l) (take (driven t (into t l) ls) ls)) (getD ls (driven t (into t l) ls) no-leg) ≡ false)
+        → begins t (end t v (take (pick b (suc (driven t (into t l) ls)) 0) (l ∷ ls))) (getD (l ∷ ls) (pick b (suc (driven t (into t l) ls)) 0) no-leg) ≡ false
+    at true e h later = later (omega arith)
+    at false e h later = e
+
+-- after a drive it goes on with the rest
+pub driven-append : (t : Town) {v u : ℕ} {xs : List Leg} (ys : List Leg) → Drive t v xs u → driven t v (xs ++ ys) ≡ length xs + driven t u ys
+unfolding driven
+driven-append t ys (stay v) = omega arith
+driven-append t ys (go v u l xs h e d) =
+    let b = tests-begins t v l .1 (h, e) in
+    let on = ap (λ z. pick z (suc (driven t (into t l) (xs ++ ys))) 0) b in
+    omega (arith, driven-append t ys d)
+
+pub drive-end : (t : Town) {v u : ℕ} {xs : List Leg} → Drive t v xs u → end t v xs ≡ u
+unfolding end
+drive-end t (stay v) = refl
+drive-end t (go v u l xs h e d) = drive-end t d
+
+-- the legs are a drive if all of them are driven, and only then
+pub whole-drive : (t : Town) (v : ℕ) (ls : List Leg) → length ls ≤ driven t v ls → Drive t v ls (end t v ls)
+whole-drive t v ls h = subst (λ (xs : List Leg). Drive t v xs (end t v xs)) (take-all (driven t v ls) ls h) (driven-drive t v ls)
+
+pub drive-whole : (t : Town) (v u : ℕ) (ls : List Leg) → Drive t v ls u → driven t v ls ≡ length ls
+unfolding driven
+drive-whole t v u ls d = ap (driven t v) (sym (append-nil ls)) ∙ omega (arith, driven-append t [] d)
+
+-- a leg that does not begin where a drive ends is the first fault
+pub drive-stuck : (t : Town) (v u : ℕ) (ls : List Leg) (i : ℕ) → i < length ls → Drive t v (take i ls) u → begins t u (getD ls i no-leg) ≡ false → driven t v ls ≡ i
+unfolding driven
+drive-stuck t v u ls i h d b =
+    let l = getD ls i no-leg in
+    let rest = drop (i + 1) ls in
+    let split = sym (take-append-drop i ls) ∙ ap (λ (xs : List Leg). take i ls ++ xs) (drop-more ls i no-leg h) in
+    let stuck = ap (λ z. pick z (suc (driven t (into t l) rest)) 0) b in
+    ap (driven t v) split ∙ omega (arith, driven-append t (l ∷ rest) d, length-take-le i ls (omega arith))

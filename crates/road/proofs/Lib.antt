@@ -8,6 +8,7 @@ pub mod Reached
 pub mod Faults
 pub mod Models
 pub mod Growth
+pub mod Listed
 pub mod First
 pub mod Fill
 pub mod Numbers

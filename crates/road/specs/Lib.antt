@@ -8,3 +8,4 @@ pub mod Refusals
 pub mod Model
 pub mod Faults
 pub mod Growth
+pub mod Laws

@@ -50,6 +50,10 @@ town-refusal n xs depot = crossings-refusal n then (numbers-refusal xs then (str
 abbrev pub reach-refusal : Town → ℕ → Option (ℕ × ℕ)
 reach-refusal t depot = unless-all (size t) (λ k. reached t depot (one t k)) (λ k. (5, k))
 
+-- 1 to 5
+abbrev pub plan-refusal : ℕ → List ℕ → ℕ → Option (ℕ × ℕ)
+plan-refusal n xs depot = town-refusal n xs depot then reach-refusal (town-in n xs) depot
+
 -- 7: a leg of no street, the first
 abbrev pub legs-refusal : Town → List ℕ → Option (ℕ × ℕ)
 legs-refusal t xs = unless-all (length xs) (λ i. ltb (getD xs i 0) (2 * size t)) (λ i. (7, i))

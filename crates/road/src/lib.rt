@@ -1,6 +1,7 @@
 // Towns, legs and drives: the types, how a town is taken from numbers, and how a drive is checked leg by leg.
 mod drive;
 mod fault;
+mod laws;
 mod leg;
 mod reach;
 mod refusal;

@@ -1,0 +1,5 @@
+use Rattle.road.proofs.laws.depot_refused_stands.Needs as need
+use Rattle.road.proofs.Listed.{depot-refused}
+
+pub returns : need.returns
+returns c = depot-refused

@@ -1,0 +1,5 @@
+use Rattle.road.proofs.laws.fault_street_stands.Needs as need
+use Rattle.road.proofs.Faults.{fault-street}
+
+pub returns : need.returns
+returns c = fault-street

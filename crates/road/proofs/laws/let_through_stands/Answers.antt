@@ -1,0 +1,5 @@
+use Rattle.road.proofs.laws.let_through_stands.Needs as need
+use Rattle.road.proofs.Listed.{let-through}
+
+pub returns : need.returns
+returns c = let-through

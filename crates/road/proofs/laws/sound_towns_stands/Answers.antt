@@ -1,0 +1,5 @@
+use Rattle.road.proofs.laws.sound_towns_stands.Needs as need
+use Rattle.road.proofs.Listed.{sound-towns}
+
+pub returns : need.returns
+returns c = sound-towns

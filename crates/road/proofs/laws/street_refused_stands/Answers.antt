@@ -1,0 +1,5 @@
+use Rattle.road.proofs.laws.street_refused_stands.Needs as need
+use Rattle.road.proofs.Listed.{street-refused}
+
+pub returns : need.returns
+returns c = street-refused

@@ -1,0 +1,5 @@
+use Rattle.road.proofs.laws.taken_stands.Needs as need
+use Rattle.road.proofs.Listed.{taken}
+
+pub returns : need.returns
+returns c = taken

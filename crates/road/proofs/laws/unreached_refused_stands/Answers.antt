@@ -1,0 +1,5 @@
+use Rattle.road.proofs.laws.unreached_refused_stands.Needs as need
+use Rattle.road.proofs.Listed.{unreached-refused}
+
+pub returns : need.returns
+returns c = unreached-refused
