@@ -1,0 +1,5 @@
+use Rattle.sheet.proofs.laws.accepted_stands.Needs as need
+use Rattle.sheet.proofs.Right.{accepted}
+
+pub returns : need.returns
+returns c = accepted

@@ -1,0 +1,4 @@
+pub mod Sheet
+pub mod Shown
+pub mod Numbers
+pub mod Words
