@@ -129,7 +129,8 @@ impl Town {
 
     // The length of the legs together; a leg of no street has none. A list is shorter than 2^64 and a street than 2^17, so the sum fits.
     pub fn length(&self, legs: &[u64]) -> u128
-        ensures { λ r. ⌜ r ≡ far (model (now (self .entry))) (legs-in (now (legs .entry))) ⌝ }
+        ensures is { λ r. ⌜ r ≡ far (model (now (self .entry))) (legs-in (now (legs .entry))) ⌝ }
+        ensures most { λ r. ⌜ r ≤ 100000 * length (now (legs .entry)) ⌝ }
     {
         let mut sum = 0u128;
         for number in legs {
@@ -138,12 +139,10 @@ impl Town {
         sum
     }
 
-    // The length of the legs, if they are a round from the depot over every street; else what is wrong.
-    pub fn round_length(&self, legs: &[u64]) -> Result<u128, Fault>
-        ensures { λ r. ⌜ Finds (fault (model (now (self .entry))) (now (self .entry) .depot) (now (self .entry) .depot) all (legs-in (now (legs .entry))))
-            (λ n. n ≡ far (model (now (self .entry))) (legs-in (now (legs .entry)))) r ⌝ }
+    // Whether the legs are a round: a drive from the depot over every street and home.
+    pub fn check_as_round(&self, legs: &[u64]) -> Result<(), Fault>
+        ensures { λ r. ⌜ Finds (fault (model (now (self .entry))) (now (self .entry) .depot) (now (self .entry) .depot) all (legs-in (now (legs .entry)))) (λ _. Unit {0}) r ⌝ }
     {
-        self.check_drive(self.depot, self.depot, &all_marks(), legs)?;
-        Ok(self.length(legs))
+        self.check_drive(self.depot, self.depot, &all_marks(), legs)
     }
 }

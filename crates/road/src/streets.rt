@@ -26,7 +26,8 @@ impl Town {
 
     // All streets together, in metres.
     pub fn all_streets(&self) -> u64
-        ensures { λ r. ⌜ r ≡ all-streets (model (now (self .entry)) .streets) ⌝ }
+        ensures is { λ r. ⌜ r ≡ all-streets (model (now (self .entry)) .streets) ⌝ }
+        ensures most { λ r. ⌜ r ≤ 30000000 ⌝ }
     {
         let mut sum = 0;
         for k in 0..self.count {

@@ -25,10 +25,16 @@ mod tests {
         }
     }
 
-    // The length of a round from crossing 0, or its fault; a town that is refused has none.
+    // The length of the legs if they are a round, or their fault.
+    fn measured(town: &Town, legs: &[u64]) -> Result<u128, Fault> {
+        town.check_as_round(legs)?;
+        Ok(town.length(legs))
+    }
+
+    // The same of legs from crossing 0, in a town that is taken.
     fn round(crossings: u64, numbers: &[u64], legs: &[u64]) -> Option<Result<u128, Fault>> {
         match Town::take(crossings, numbers, 0) {
-            Ok(town) => Some(town.round_length(legs)),
+            Ok(town) => Some(measured(&town, legs)),
             Err(_) => None,
         }
     }

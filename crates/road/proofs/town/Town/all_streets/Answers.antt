@@ -23,4 +23,4 @@ pub returns : need.returns
 returns c =
     let t = model (c .args .self .now) in
     let e : c .loop-k .k ≡ size t = omega (arith, size-model (c .args .self .now)) in
-    c .loop-k .inv .0 ∙ ap (λ n. sum n (λ k. street t k .long)) e ∙ sym (all-streets-sum t)
+    record { is = c .loop-k .inv .0 ∙ ap (λ n. sum n (λ k. street t k .long)) e ∙ sym (all-streets-sum t); most = omega (arith, c .loop-k .inv .1) }

@@ -4,6 +4,7 @@ use Prim.Native.Nat.{ℕ, _+_, _<_}
 use native.Mathlib.Omega.{arith}
 use lib.ListN.{set}
 use Rattle.road.specs.Roads.{into}
+use Rattle.road.specs.Faults.{begins}
 use Rattle.road.specs.Model.{model}
 use Rattle.road.proofs.Models.{size-model}
 use Rattle.road.proofs.Legs.{Along, along-start, along-whole, along-end, along-stuck, along-more, begins-low}
@@ -22,12 +23,12 @@ returns-then-not-begins c =
 pub loop-i-again : need.loop-i-again
 loop-i-again c =
     let t = c .args .self .now in
-    let begins = sym (c .if-not-begins .ensures tt) in
-    let low = begins-low (model t) (c .loop-i .at) (c .of-leg .result) begins in
+    let there = sym {b = begins (model t) (c .loop-i .at) (c .of-leg .result)} (c .if-not-begins .ensures tt) in
+    let low = begins-low (model t) (c .loop-i .at) (c .of-leg .result) there in
     let by : c .of-leg .result .by < 300 = omega (arith, size-model t) in
-    subst (λ w. Along (model t) (c .args .start) (c .args .legs .now) (c .loop-i .i + 1) w (set (c .loop-i .marks) (c .of-leg .result .by) true)) (sym (c .end-of-at .ensures))
+    subst (λ w. Along (model t) (c .args .start) (c .args .legs .now) (c .loop-i .i + 1) w (set (c .loop-i .marks) (c .of-leg .result .by) true)) (sym {b = into (model t) (c .of-leg .result)} (c .end-of-at .ensures))
     (along-more (model t) (c .args .start) (c .args .legs .now) (c .loop-i .i) (c .loop-i .at) (c .loop-i .marks) (c .loop-i .inv)
-    (c .of-leg .result) (c .loop-i-test .taken) (c .of-leg .ensures) begins by)
+    (c .of-leg .result) (c .loop-i-test .taken) (c .of-leg .ensures) there by)
 
 pub returns : need.returns
 returns c =

@@ -20,4 +20,4 @@ pub returns : need.returns
 unfolding far
 returns c =
     let none = at-drop-all (λ (xs : List ℕ). far (model (c .args .self .now)) (legs-in xs)) (c .args .legs .now) (c .loop-number .number-index) (c .loop-number-test .left) in
-    omega (arith, c .loop-number .inv .0)
+    record { is = omega (arith, c .loop-number .inv .0); most = omega (arith, c .loop-number .inv .1) }
