@@ -2,3 +2,4 @@ pub mod Sheet
 pub mod Shown
 pub mod Numbers
 pub mod Words
+pub mod Model

@@ -5,6 +5,8 @@ use mathlib.Core.List.{List, [], _∷_}
 use Prim.Native.Nat.{ℕ, suc, _+_, _*_, _≤_, _%_}
 use Rattle.road.specs.declared.leg.Leg.{Leg}
 use Rattle.road.specs.Roads.{pick, Town, street, Drive, Round, Shortest, far, all-streets}
+use Rattle.sheet.specs.declared.word.Word.{Word}
+use Rattle.sheet.specs.declared.word.Word.the-variants as words
 use Rattle.sheet.specs.Sheet.{Part, Sheet, weights, leads-out, ways-out}
 
 -- how often a drive crosses the border of a part
@@ -33,3 +35,11 @@ unfoldable pub Accepted : Type 0
 Accepted =
     (t : Town) (depot : ℕ) (ps : List Part) (ls : List Leg) → Sheet t ps → Round t depot ls →
     2 * far t ls ≡ 2 * all-streets (t .streets) + weights ps → Shortest t depot ls
+
+-- what the word shortest means: the legs are a shortest round, of that length
+abbrev pub Shows : Town → ℕ → List Leg → Word → Type 0
+Shows t depot ls (words.Shortest n) = Shortest t depot ls × (far t ls ≡ n)
+Shows t depot ls (words.NoRound f) = Unit {0}
+Shows t depot ls (words.NoSheet f) = Unit {0}
+Shows t depot ls (words.Apart n m) = Unit {0}
+Shows t depot ls (words.Refused r) = Unit {0}

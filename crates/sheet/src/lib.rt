@@ -1,5 +1,10 @@
 // Sheets: parts of a town with weights, and the checker's word on a round and a sheet.
+mod check;
 mod laws;
+mod parts;
+mod read;
+mod rules;
+mod take;
 mod word;
 
 pub use word::SheetFault;

@@ -1,0 +1,9 @@
+use mathlib.Core.Path.{refl}
+use native.Mathlib.Omega.{arith}
+use Rattle.sheet.proofs.Places.{part-room}
+use Rattle.sheet.proofs.parts.Parts.begin.Needs as need
+
+pub returns : need.returns
+returns c =
+    let p = c .args .self .now in
+    record { is = refl; room = omega (arith, part-room (p .count) (p .town .now .crossings) (c .args .i) (c .pre), p .whole) }

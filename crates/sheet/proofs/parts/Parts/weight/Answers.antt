@@ -1,0 +1,12 @@
+use mathlib.Core.Path.{_≡_, sym, ap, subst}
+use Prim.Native.Nat.{ℕ, _≤_}
+use lib.ListN.{getD}
+use Rattle.sheet.proofs.Places.{weight-at}
+use Rattle.sheet.proofs.parts.Parts.weight.Needs as need
+
+pub returns : need.returns
+returns c =
+    let p = c .args .self .now in record {
+      is = weight-at (p .count) (p .town .now .crossings) (p .numbers .now) (c .args .i) (c .begin .result) (c .pre) (c .begin .ensures .is);
+      light = subst (λ a. getD (p .numbers .now) a 0 ≤ 10000000) (sym (c .begin .ensures .is)) (p .light (c .args .i) (c .pre));
+    }
