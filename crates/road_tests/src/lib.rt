@@ -12,9 +12,13 @@ mod tests {
     use std::test::*;
 
     const ROAD: [u64; 3] = [0, 1, 7];
+
     const STAR: [u64; 9] = [0, 1, 2, 0, 2, 3, 0, 3, 4];
+
     const PARALLEL: [u64; 9] = [0, 1, 2, 0, 1, 3, 0, 1, 5];
+
     const LOOP: [u64; 6] = [0, 1, 4, 1, 1, 3];
+
     const APART: [u64; 12] = [0, 1, 1, 2, 2, 0, 2, 3, 9, 0, 0, 4];
 
     // The refusal of the planner's list, or none.
@@ -49,8 +53,14 @@ mod tests {
         check_eq(refused(1, &[0; 903], 0), Some(Refusal::Numbers(903)))?;
         check_eq(refused(2, &[0, 1, 7, 1], 0), Some(Refusal::Numbers(4)))?;
         check_eq(refused(2, &[0, 1, 100_000], 0), None)?;
-        check_eq(refused(2, &[0, 1, 5, 0, 1, 100_001], 0), Some(Refusal::OutOfRange(1)))?;
-        check_eq(refused(2, &[0, 1, 5, 0, 2, 5, 2, 0, 5], 0), Some(Refusal::OutOfRange(1)))?;
+        check_eq(
+            refused(2, &[0, 1, 5, 0, 1, 100_001], 0),
+            Some(Refusal::OutOfRange(1)),
+        )?;
+        check_eq(
+            refused(2, &[0, 1, 5, 0, 2, 5, 2, 0, 5], 0),
+            Some(Refusal::OutOfRange(1)),
+        )?;
         check_eq(refused(2, &[2, 0, 5], 0), Some(Refusal::OutOfRange(0)))?;
         check_eq(refused(2, &ROAD, 2), Some(Refusal::Depot(2)))
     }

@@ -1,5 +1,5 @@
 -- Parts as numbers: what stands at which place. Assumes nothing.
-use mathlib.Core.Path.{_≡_, refl, sym, ap, _∙_}
+use mathlib.Core.Path.{_≡_, refl, sym, ap, ap₂, _∙_}
 use mathlib.Core.Bool.{Bool, true, false, not, Bool·beq}
 use mathlib.Core.List.{List, [], _∷_, map}
 use Prim.Native.Nat.{ℕ, zero, suc, _+_, _*_, _/_, _≤_, _<_}
@@ -8,9 +8,10 @@ use native.Mathlib.Omega.{arith}
 use lib.Dec.{ltb}
 use lib.ListN.{length, getD, take, drop}
 use Rattle.std.proofs.shelf.Lists.{drop-drop, getD-drop, getD-take}
+use Rattle.road.specs.declared.street.Street.{Street}
 use Rattle.road.specs.Counts.{_⊕_}
 use Rattle.road.specs.Model.{marked}
-use Rattle.sheet.specs.Sheet.{Part, no-part}
+use Rattle.sheet.specs.Sheet.{Part, no-part, leads-out}
 use Rattle.sheet.specs.Numbers.{marks-in, parts-in}
 
 -- the part at the front of the numbers
@@ -48,9 +49,9 @@ weight-at m n xs i a h e =
 pub mark-at : (m n : ℕ) (xs : List ℕ) (i a v : ℕ) → i < m → a ≡ i * (1 + n) → v < n → ltb 0 (getD xs (a + 1 + v) 0) ≡ marked (getD (parts-in m n xs) i no-part .marks) v
 mark-at m n xs i a v h e l =
     sym (
-      ap (λ (p : Part). marked (p .marks) v) (part-at m n xs i h)
-      ∙ getD-marks (take n (drop 1 (drop (i * (1 + n)) xs))) v
-      ∙ ap (ltb 0) (getD-take n (drop 1 (drop (i * (1 + n)) xs)) v 0 l ∙ getD-drop 1 (drop (i * (1 + n)) xs) v 0 ∙ getD-drop (i * (1 + n)) xs (1 + v) 0 ∙ ap (λ z. getD xs z 0) (omega arith))
+    ap (λ (p : Part). marked (p .marks) v) (part-at m n xs i h)
+    ∙ getD-marks (take n (drop 1 (drop (i * (1 + n)) xs))) v
+    ∙ ap (ltb 0) (getD-take n (drop 1 (drop (i * (1 + n)) xs)) v 0 l ∙ getD-drop 1 (drop (i * (1 + n)) xs) v 0 ∙ getD-drop (i * (1 + n)) xs (1 + v) 0 ∙ ap (λ z. getD xs z 0) (omega arith))
     )
 
 pub unequal : (a b : Bool) → not (Bool·beq a b) ≡ a ⊕ b
@@ -62,3 +63,8 @@ unequal false false = refl
 -- a place of a whole part is one of the list
 pub place-low : (n : ℕ) (xs : List ℕ) (i : ℕ) → i < length xs / (1 + n) → i * (1 + n) + n < length xs
 place-low n xs i h = omega (arith, part-room (length xs / (1 + n)) n i h, div-mul-le-self (length xs) (1 + n))
+
+-- a street leads out if the marks of its ends differ
+pub leads-is : (ms : List Bool) (s s′ : Street) (a b : Bool) → a ≡ marked ms (s .one) → b ≡ marked ms (s .two) → s ≡ s′ → not (Bool·beq a b) ≡ leads-out ms s′
+unfolding leads-out
+leads-is ms s s′ a b p q e = unequal a b ∙ ap₂ (λ x y. x ⊕ y) p q ∙ ap (λ (z : Street). marked ms (z .one) ⊕ marked ms (z .two)) e

@@ -3,3 +3,5 @@ pub mod Shown
 pub mod Numbers
 pub mod Words
 pub mod Model
+pub mod Laws
+pub mod Worked

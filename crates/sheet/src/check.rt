@@ -51,7 +51,13 @@ impl Parts<'_, '_> {
 }
 
 // The word on the legs and parts of a town, or the first refusal of 1 to 4, 7 and 8 that applies.
-fn take_and_judge(crossings: u64, streets: &[u64], depot: u64, legs: &[u64], parts: &[u64]) -> Result<Word, Refusal>
+fn take_and_judge(
+    crossings: u64,
+    streets: &[u64],
+    depot: u64,
+    legs: &[u64],
+    parts: &[u64],
+) -> Result<Word, Refusal>
     ensures { λ r. ⌜ Answers (check-refusal crossings (now (streets .entry)) depot (now (legs .entry)) (now (parts .entry)))
         (λ w. w ≡ judged (town-in crossings (now (streets .entry))) depot (legs-in (now (legs .entry))) (sheet-in crossings (now (parts .entry)))) r ⌝ }
 {
@@ -59,4 +65,16 @@ fn take_and_judge(crossings: u64, streets: &[u64], depot: u64, legs: &[u64], par
     town.check_legs(legs)?;
     let taken = Parts::take(&town, parts)?;
     Ok(taken.judge(legs))
+}
+
+// The word on a round and a sheet, given as anybody may have written them. Nothing is allocated and nothing lent is changed.
+pub fn check_round(crossings: u64, streets: &[u64], depot: u64, legs: &[u64], parts: &[u64]) -> Word
+    ensures word { λ r. ⌜ said r ≡ unless-refused (check-refusal crossings (now (streets .entry)) depot (now (legs .entry)) (now (parts .entry)))
+        (judged (town-in crossings (now (streets .entry))) depot (legs-in (now (legs .entry))) (sheet-in crossings (now (parts .entry)))) ⌝ }
+    ensures shows { λ r. ⌜ Shows (town-in crossings (now (streets .entry))) depot (legs-in (now (legs .entry))) r ⌝ }
+{
+    match take_and_judge(crossings, streets, depot, legs, parts) {
+        Ok(word) => word,
+        Err(refusal) => Word::Refused(refusal),
+    }
 }

@@ -7,5 +7,6 @@ mod rules;
 mod take;
 mod word;
 
+pub use check::check_round;
 pub use word::SheetFault;
 pub use word::Word;

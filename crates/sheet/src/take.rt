@@ -52,6 +52,10 @@ impl<'t, 'n> Parts<'t, 'n> {
         check_whole(town.crossings, numbers)?;
         check_count(town.crossings, numbers)?;
         check_weights(town.crossings, numbers)?;
-        Ok(Parts { town, numbers, count: numbers.len() / (1 + town.crossings) })
+        Ok(Parts {
+            town,
+            numbers,
+            count: numbers.len() / (1 + town.crossings),
+        })
     }
 }

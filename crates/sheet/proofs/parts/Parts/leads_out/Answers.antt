@@ -1,17 +1,12 @@
-use mathlib.Core.Path.{_≡_, ap, ap₂, _∙_}
-use mathlib.Core.Bool.{Bool}
 use lib.ListN.{getD}
-use Rattle.road.specs.declared.street.Street.{Street}
-use Rattle.road.specs.Counts.{_⊕_}
-use Rattle.road.specs.Model.{marked}
-use Rattle.sheet.specs.Sheet.{no-part, leads-out}
-use Rattle.sheet.specs.Model.{parts-of}
-use Rattle.sheet.proofs.Places.{unequal}
+use Rattle.road.specs.Roads.{street}
+use Rattle.sheet.specs.Sheet.{no-part}
+use Rattle.sheet.specs.Model.{parts-of, town-of}
+use Rattle.sheet.proofs.Places.{leads-is}
 use Rattle.sheet.proofs.parts.Parts.leads_out.Needs as need
 
 pub returns : need.returns
-unfolding leads-out
 returns c =
-    let ms = getD (parts-of (c .args .self .now)) (c .args .i) no-part .marks in
-    unequal (c .is-marked .result) (c .is-marked-2 .result) ∙ ap₂ (λ a b. a ⊕ b) (c .is-marked .ensures) (c .is-marked-2 .ensures)
-    ∙ ap (λ (s : Street). marked ms (s .one) ⊕ marked ms (s .two)) (c .street-street .ensures .is)
+    let p = c .args .self .now in
+    leads-is (getD (parts-of p) (c .args .i) no-part .marks) (c .street-street .result) (street (town-of p) (c .args .k)) (c .is-marked .result) (c .is-marked-2 .result)
+    (c .is-marked .ensures) (c .is-marked-2 .ensures) (c .street-street .ensures .is)

@@ -19,12 +19,12 @@ loop-i-again c =
     let led : c .leads-out .result ≡ leads-out (part .marks) (street (town-of p) (c .args .k)) = c .leads-out .ensures in
     let borne = ap (λ b. pick b (part .weight) 0) {y = leads-out (part .marks) (street (town-of p) (c .args .k))} led in
     elim (c .if-leads-out .came) [
-    | then-leads-out w ↦
-      let in-load = ap (λ b. pick b (part .weight) 0) (w .if-leads-out .taken) in
-      (omega (arith, c .loop-i .inv .0, w .sum-is, w .weight-sum .ensures .is), omega (arith, c .loop-i .inv .1, w .sum-is, w .weight-sum .ensures .light))
-    | else-leads-out w ↦
-      let off-load = ap (λ b. pick b (part .weight) 0) (w .if-leads-out .left) in
-      (omega (arith, c .loop-i .inv .0, w .sum-is), omega (arith, c .loop-i .inv .1, w .sum-is))
+      | then-leads-out w ↦
+          let in-load = ap (λ b. pick b (part .weight) 0) (w .if-leads-out .taken) in
+          (omega (arith, c .loop-i .inv .0, w .sum-is, w .weight-sum .ensures .is), omega (arith, c .loop-i .inv .1, w .sum-is, w .weight-sum .ensures .light))
+      | else-leads-out w ↦
+          let off-load = ap (λ b. pick b (part .weight) 0) (w .if-leads-out .left) in
+          (omega (arith, c .loop-i .inv .0, w .sum-is), omega (arith, c .loop-i .inv .1, w .sum-is))
     ]
 
 pub returns : need.returns

@@ -1,0 +1,5 @@
+use Rattle.sheet.proofs.laws.word_no_round_stands.Needs as need
+use Rattle.sheet.proofs.Judged.{word-no-round}
+
+pub returns : need.returns
+returns c = word-no-round

@@ -1,0 +1,5 @@
+use Rattle.sheet.proofs.laws.word_shortest_stands.Needs as need
+use Rattle.sheet.proofs.Judged.{word-shortest}
+
+pub returns : need.returns
+returns c = word-shortest

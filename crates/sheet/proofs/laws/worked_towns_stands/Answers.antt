@@ -1,0 +1,5 @@
+use Rattle.sheet.proofs.laws.worked_towns_stands.Needs as need
+use Rattle.sheet.proofs.Examples.{worked-towns}
+
+pub returns : need.returns
+returns c = worked-towns
