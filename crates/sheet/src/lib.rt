@@ -10,3 +10,5 @@ mod word;
 pub use check::check_round;
 pub use word::SheetFault;
 pub use word::Word;
+pub use word::WordDebug;
+pub use word::WordPartialEq;
