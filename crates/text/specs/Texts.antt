@@ -5,8 +5,7 @@ use Rattle.std.specs.declared.option.Option.{Option}
 use Rattle.std.specs.Of.Vec.{vec-items}
 use Rattle.road.specs.Roads.{Town}
 use Rattle.road.specs.Numbers.{town-in, legs-in}
-use Rattle.road.specs.First.{_then_}
-use Rattle.road.specs.Refusals.{town-refusal, reach-refusal}
+use Rattle.road.specs.Refusals.{town-refusal, plan-refusal}
 use Rattle.sheet.specs.Numbers.{sheet-in}
 use Rattle.sheet.specs.Words.{check-refusal, judged, unless-refused}
 use Rattle.text.specs.declared.texts.TownText.{TownText}
@@ -21,7 +20,7 @@ no-town x = town-refusal (x .crossings) (vec-items (x .streets)) (x .depot)
 
 -- 1 to 5: a town that cannot be planned
 abbrev pub no-plan : TownText → Option (ℕ × ℕ)
-no-plan x = no-town x then reach-refusal (town-of x) (x .depot)
+no-plan x = plan-refusal (x .crossings) (vec-items (x .streets)) (x .depot)
 
 -- what the checker says of a text: the number and the values of its word
 abbrev pub word-of : RoundText → ℕ × List ℕ

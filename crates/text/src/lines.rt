@@ -120,7 +120,12 @@ impl Lines {
         };
         let weight = number(first).ok_or(LineFault::Part)?;
         let crossings = crossings_of(heap, rest)?;
-        self.parts.push(PartLine { line, weight, crossings })?;
+        self.parts
+            .push(PartLine {
+                line,
+                weight,
+                crossings,
+            })?;
         Ok(())
     }
 

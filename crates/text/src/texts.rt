@@ -60,6 +60,12 @@ impl RoundText {
     pub fn word(&self) -> Word
         ensures { λ r. ⌜ said r ≡ word-of (now (self .entry)) ⌝ }
     {
-        check_round(self.town.crossings, self.town.streets.as_slice(), self.town.depot, self.legs.as_slice(), self.parts.as_slice())
+        check_round(
+            self.town.crossings,
+            self.town.streets.as_slice(),
+            self.town.depot,
+            self.legs.as_slice(),
+            self.parts.as_slice(),
+        )
     }
 }
