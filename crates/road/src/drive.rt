@@ -46,8 +46,10 @@ fn all_marks() -> [bool; 300]
 }
 
 impl Town {
-    fn begin_of(&self, leg: Leg) -> usize
-        ensures { λ r. ⌜ r ≡ begin-of (model (now (self .entry))) leg ⌝ }
+    // The crossing at which a leg begins.
+    pub fn begin_of(&self, leg: Leg) -> usize
+        ensures is { λ r. ⌜ r ≡ begin-of (model (now (self .entry))) leg ⌝ }
+        ensures below { λ r. ⌜ r < now (self .entry) .crossings ⌝ }
     {
         let street = self.street(leg.by);
         if leg.back { street.two } else { street.one }
@@ -60,8 +62,10 @@ impl Town {
         leg.by < self.count && self.begin_of(leg) == at
     }
 
-    fn end_of(&self, leg: Leg) -> usize
-        ensures { λ r. ⌜ r ≡ end-of (model (now (self .entry))) leg ⌝ }
+    // The crossing at which a leg ends.
+    pub fn end_of(&self, leg: Leg) -> usize
+        ensures is { λ r. ⌜ r ≡ end-of (model (now (self .entry))) leg ⌝ }
+        ensures below { λ r. ⌜ r < now (self .entry) .crossings ⌝ }
     {
         let street = self.street(leg.by);
         if leg.back { street.one } else { street.two }

@@ -1,10 +1,10 @@
 -- What the checker's words mean. Each statement is a type that src/laws.rt asks a proof of. Assumes nothing.
 use mathlib.Core.Path.{_≡_}
 use mathlib.Core.List.{List}
-use mathlib.Core.Logic.{_↔_}
+use mathlib.Core.Logic.{_⊎_, _↔_}
 use Prim.Native.Nat.{ℕ, _+_, _*_, _/_, _%_, _≤_, _<_}
 use lib.ListN.{length, getD}
-use Rattle.std.specs.declared.option.Option.the-variants.{Some}
+use Rattle.std.specs.declared.option.Option.the-variants.{Some, None}
 use Rattle.road.specs.declared.fault.Fault.{Fault}
 use Rattle.road.specs.declared.leg.Leg.{Leg}
 use Rattle.road.specs.Roads.{Town, street, Round, far}
@@ -14,7 +14,7 @@ use Rattle.sheet.specs.declared.word.SheetFault.{SheetFault}
 use Rattle.sheet.specs.declared.word.SheetFault.the-variants.{Part as AtPart, Street as AtStreet}
 use Rattle.sheet.specs.declared.word.Word.the-variants.{NoRound, NoSheet, Shortest, Apart}
 use Rattle.sheet.specs.Sheet.{Part, no-part, Sheet, ways-out, load}
-use Rattle.sheet.specs.Words.{shown, judged}
+use Rattle.sheet.specs.Words.{shown, judged, parts-refusal}
 
 -- an odd number of streets lead out of part i, and street k bears at most twice its length
 abbrev pub Odd : Town → List Part → ℕ → Type 0
@@ -62,3 +62,27 @@ abbrev pub Word-apart : Type 0
 Word-apart =
     (t : Town) (depot : ℕ) (ls : List Leg) (ps : List Part) (n m : ℕ) → (judged t depot ls ps ≡ Apart n m)
     ↔ (Round t depot ls × Sheet t ps × (Agree t ls ps → ⊥) × (n ≡ far t ls) × (m ≡ (shown t ps + 1) / 2))
+
+-- the rules of parts in numbers, for a town of n crossings
+abbrev pub Whole-rule : ℕ → List ℕ → Type 0
+Whole-rule n xs = (m : ℕ) × (length xs ≡ m * (1 + n))
+
+abbrev pub Count-rule : ℕ → List ℕ → Type 0
+Count-rule n xs = length xs / (1 + n) ≤ 400
+
+abbrev pub Weight-rule : ℕ → List ℕ → ℕ → Type 0
+Weight-rule n xs i = getD xs (i * (1 + n)) 0 ≤ 10000000
+
+-- refusal 8 is given just if they are not a whole number of parts, at their length; or else too many, at their number; or else one is too heavy, at the first
+abbrev pub Parts-refused : Type 0
+Parts-refused =
+    (n : ℕ) (xs : List ℕ) (p : ℕ) → (parts-refusal n xs ≡ Some (8, p))
+    ↔ (((Whole-rule n xs → ⊥) × (p ≡ length xs))
+    ⊎ ((Whole-rule n xs × (Count-rule n xs → ⊥) × (p ≡ length xs / (1 + n)))
+    ⊎ (Whole-rule n xs × Count-rule n xs × (p < length xs / (1 + n)) × (Weight-rule n xs p → ⊥) × ((j : ℕ) → j < p → Weight-rule n xs j))))
+
+-- and none just if all are kept
+abbrev pub Parts-taken : Type 0
+Parts-taken =
+    (n : ℕ) (xs : List ℕ) → (parts-refusal n xs ≡ None)
+    ↔ (Whole-rule n xs × Count-rule n xs × ((i : ℕ) → i < length xs / (1 + n) → Weight-rule n xs i))

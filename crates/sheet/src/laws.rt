@@ -1,6 +1,6 @@
 // Functions that stand for theorems: each has the theorem as its contract.
 ghost use Rattle.sheet.specs.Shown.{Home-even, Twice, Sheet-right, Accepted};
-ghost use Rattle.sheet.specs.Laws.{Word-shortest, Word-no-round, Word-no-sheet, Word-at-part, Word-at-street, Word-apart};
+ghost use Rattle.sheet.specs.Laws.{Word-shortest, Word-no-round, Word-no-sheet, Word-at-part, Word-at-street, Word-apart, Parts-refused, Parts-taken};
 ghost use Rattle.sheet.specs.Worked.{Worked-towns};
 
 // A drive that comes home has crossed the border of each part an even number of times.
@@ -76,6 +76,20 @@ pub fn word_apart_stands() -> u8
 // In each of the worked towns the legs are a round of the length given, the parts are a sheet, and they agree.
 pub fn worked_towns_stands() -> u8
     ensures { λ _. ⌜ Worked-towns ⌝ }
+{
+    0
+}
+
+// Refusal 8 is given just if the numbers are not a whole number of parts, or else are too many parts, or else one is too heavy, at its place.
+pub fn parts_refused_stands() -> u8
+    ensures { λ _. ⌜ Parts-refused ⌝ }
+{
+    0
+}
+
+// Parts are taken just if they keep these rules.
+pub fn parts_taken_stands() -> u8
+    ensures { λ _. ⌜ Parts-taken ⌝ }
 {
     0
 }

@@ -26,7 +26,7 @@ loop-i-again c =
     let there = sym {b = begins (model t) (c .loop-i .at) (c .of-leg .result)} (c .if-not-begins .ensures tt) in
     let low = begins-low (model t) (c .loop-i .at) (c .of-leg .result) there in
     let by : c .of-leg .result .by < 300 = omega (arith, size-model t) in
-    subst (λ w. Along (model t) (c .args .start) (c .args .legs .now) (c .loop-i .i + 1) w (set (c .loop-i .marks) (c .of-leg .result .by) true)) (sym {b = into (model t) (c .of-leg .result)} (c .end-of-at .ensures))
+    subst (λ w. Along (model t) (c .args .start) (c .args .legs .now) (c .loop-i .i + 1) w (set (c .loop-i .marks) (c .of-leg .result .by) true)) (sym {b = into (model t) (c .of-leg .result)} (c .end-of-at .ensures .is))
     (along-more (model t) (c .args .start) (c .args .legs .now) (c .loop-i .i) (c .loop-i .at) (c .loop-i .marks) (c .loop-i .inv)
     (c .of-leg .result) (c .loop-i-test .taken) (c .of-leg .ensures) there by)
 

@@ -1,0 +1,5 @@
+use Rattle.sheet.proofs.laws.parts_refused_stands.Needs as need
+use Rattle.sheet.proofs.Taken.{parts-refused}
+
+pub returns : need.returns
+returns c = parts-refused

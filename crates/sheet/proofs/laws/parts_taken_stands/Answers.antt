@@ -1,0 +1,5 @@
+use Rattle.sheet.proofs.laws.parts_taken_stands.Needs as need
+use Rattle.sheet.proofs.Taken.{parts-taken}
+
+pub returns : need.returns
+returns c = parts-taken
