@@ -1,0 +1,5 @@
+use Rattle.ways.proofs.laws.self_stands.Needs as need
+use Rattle.ways.proofs.Least.{least-self}
+
+pub returns : need.returns
+returns c = least-self

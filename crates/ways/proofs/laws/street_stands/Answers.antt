@@ -1,0 +1,5 @@
+use Rattle.ways.proofs.laws.street_stands.Needs as need
+use Rattle.ways.proofs.Least.{least-street}
+
+pub returns : need.returns
+returns c = least-street

@@ -1,0 +1,5 @@
+use Rattle.ways.proofs.laws.through_stands.Needs as need
+use Rattle.ways.proofs.Least.{least-through}
+
+pub returns : need.returns
+returns c = least-through

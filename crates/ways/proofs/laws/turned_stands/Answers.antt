@@ -1,0 +1,5 @@
+use Rattle.ways.proofs.laws.turned_stands.Needs as need
+use Rattle.ways.proofs.Least.{least-turned}
+
+pub returns : need.returns
+returns c = least-turned

@@ -1,0 +1,5 @@
+use Rattle.ways.proofs.laws.unique_stands.Needs as need
+use Rattle.ways.proofs.Least.{least-unique}
+
+pub returns : need.returns
+returns c = least-unique

@@ -1,0 +1,6 @@
+use borrow.Author.Needs.{needs}
+use Rattle.std.proofs.shelf.Lists.{replicate-more}
+use Rattle.ways.proofs.relax.none_yet.Needs as need
+
+pub loop-again : need.loop-again
+loop-again c = search (needs, replicate-more)

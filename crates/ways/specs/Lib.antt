@@ -1,0 +1,4 @@
+pub mod Least
+pub mod Shown
+pub mod Relaxed
+pub mod Laws
