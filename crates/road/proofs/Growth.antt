@@ -1,19 +1,18 @@
 -- Marks that grow over a street. Assumes nothing.
-use mathlib.Core.Path.{_≡_, refl, sym, ap, ap₂, subst, _∙_}
+use mathlib.Core.Path.{_≡_, refl, sym, ap, _∙_}
 use mathlib.Core.Bool.{Bool, true, false, not}
 use mathlib.Core.Logic.{⊎-elim}
 use mathlib.Core.List.{List}
-use Prim.Native.Nat.{ℕ, _+_, _<_}
+use Prim.Native.Nat.{ℕ, _<_}
 use native.Mathlib.Omega.{arith}
 use lib.ListN.{length, getD, set, replicate}
 use Rattle.std.proofs.shelf.Lists.{length-set, length-replicate, getD-replicate, getD-past, getD-set-same, getD-set-other}
 use Rattle.std.proofs.shelf.Tests.{cases-eq, cases-lt, both-ways}
 use Rattle.road.specs.Roads.{Street, Town, street}
-use Rattle.road.specs.Counts.{_⊕_, bit, sum, size, one, two, Set, cut, Side, forth, back}
+use Rattle.road.specs.Counts.{_⊕_, bit, size, one, two, Set, cut, Side, forth, back}
 use Rattle.road.specs.Reach.{reached}
 use Rattle.road.specs.Model.{marked}
 use Rattle.road.specs.Growth.{Grown, unmarked}
-use Rattle.road.proofs.Parity.{xor-false}
 use Rattle.road.proofs.Sums.{sum-point}
 use Rattle.road.proofs.Reached.{across, reached-start, reached-closed}
 

@@ -10,19 +10,17 @@ use lib.ListN.{length, getD}
 use Rattle.std.specs.declared.option.Option.{Option}
 use Rattle.std.specs.declared.option.Option.the-variants.{Some, None}
 use Rattle.std.proofs.shelf.Tests.{both-ways, ltb-true, ltb-false, lt-ltb, le-ltb, leb-true, le-leb, eqb-true, eq-eqb}
-use Rattle.road.specs.declared.sound.SoundTown.{SoundTown}
-use Rattle.road.specs.Roads.{Town, street, Sound}
+use Rattle.road.specs.Roads.{Town, street}
 use Rattle.road.specs.Counts.{size, one}
 use Rattle.road.specs.Limits.{Within, within}
 use Rattle.road.specs.Reach.{reached}
-use Rattle.road.specs.Numbers.{town-in, leg-in}
-use Rattle.road.specs.First.{first, unless, unless-all, _then_}
-use Rattle.road.specs.Refusals.{town-refusal, numbers-refusal, streets-refusal, depot-refusal, reach-refusal, plan-refusal, legs-refusal}
+use Rattle.road.specs.Numbers.{town-in}
+use Rattle.road.specs.First.{first, unless, _then_}
+use Rattle.road.specs.Refusals.{town-refusal, numbers-refusal, streets-refusal, depot-refusal, reach-refusal}
 use Rattle.road.specs.Model.{model}
 use Rattle.road.specs.Laws.{Crossings-rule, Numbers-rule, Street-rule, Streets-rule, Limits, Way, Crossings-refused, Numbers-refused, Street-refused, Depot-refused, Unreached-refused, Leg-refused, Taken, Let-through, Sound-towns}
 use Rattle.road.proofs.First.{Tests, tests-not, tests-and, tests-all, tests-first, unless-some, unless-none, then-none}
 use Rattle.road.proofs.Limits.{within-true, true-within}
-use Rattle.road.proofs.Numbers.{size-in}
 use Rattle.road.proofs.Models.{size-model, street-model}
 use Rattle.road.proofs.Reached.{reached-way, drive-reached}
 

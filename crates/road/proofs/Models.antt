@@ -2,7 +2,7 @@
 use mathlib.Core.Path.{_≡_}
 use Prim.Native.Nat.{ℕ, _≤_, _<_}
 use native.Mathlib.Omega.{arith}
-use lib.ListN.{length, getD, take}
+use lib.ListN.{getD, take}
 use Rattle.std.proofs.shelf.Lists.{getD-take, getD-past, length-take-le}
 use Rattle.road.specs.declared.town.Town.{Town}
 use Rattle.road.specs.Roads.{street, no-street}

@@ -1,11 +1,11 @@
 -- Streets as three numbers each. Assumes nothing.
-use mathlib.Core.Path.{_≡_, refl, sym, ap, ap₂, _∙_}
+use mathlib.Core.Path.{_≡_, refl, sym, ap, _∙_}
 use mathlib.Core.List.{List}
 use Prim.Native.Nat.{ℕ, zero, suc, _+_, _*_, _≤_, _<_, _/_}
 use native.Mathlib.Omega.{arith}
 use lib.ListN.{length, getD, drop, take}
 use Rattle.std.proofs.shelf.Lists.{getD-drop, ext-getD, getD-take, length-take-le}
-use Rattle.road.specs.Roads.{Street, Town, street, no-street}
+use Rattle.road.specs.Roads.{Street, street, no-street}
 use Rattle.road.specs.Counts.{size}
 use Rattle.road.specs.Numbers.{streets-in, town-in}
 

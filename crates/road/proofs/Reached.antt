@@ -1,16 +1,15 @@
 -- What can be come to: the test for it holds just where there is a drive. Assumes nothing.
-use mathlib.Core.Path.{_≡_, refl, sym, ap, ap₂, _∙_}
+use mathlib.Core.Path.{_≡_, refl, sym, ap, _∙_}
 use mathlib.Core.Bool.{Bool, true, false, _&&_, _||_}
 use mathlib.Core.List.{List, [], _∷_, _++_}
-use mathlib.Core.Logic.{_⊎_, inl, inr, ⊎-elim, _↔_}
+use mathlib.Core.Logic.{_⊎_, ⊎-elim}
 use Prim.Native.Nat.{ℕ, zero, suc, _≤_, _<_}
 use native.Mathlib.Omega.{arith}
-use lib.Dec.{eqb}
 use Rattle.std.proofs.shelf.Tests.{eqb-true, eq-eqb, cases-eq, and-parts, or-cases, or-left}
 use Rattle.road.specs.Roads.{Town, Leg, Drive, stay, go, from, into}
 use Rattle.road.specs.Counts.{_⊕_, size, one, two, Set, cut, Side}
 use Rattle.road.specs.Reach.{joined, reached}
-use Rattle.road.proofs.Parity.{xor-self, xor-same}
+use Rattle.road.proofs.Parity.{xor-same}
 use Rattle.road.proofs.Cuts.{side-cut, or-cut, leg-side}
 use Rattle.road.proofs.Drives.{drive-append}
 

@@ -5,7 +5,7 @@ use mathlib.Core.List.{List}
 use Prim.Native.Nat.{ℕ, _<_}
 use lib.ListN.{length}
 use Rattle.road.specs.Roads.{Town}
-use Rattle.road.specs.Counts.{bit, sum, size, cut}
+use Rattle.road.specs.Counts.{bit, sum, cut}
 use Rattle.road.specs.Reach.{reached}
 use Rattle.road.specs.Model.{marked}
 

@@ -11,7 +11,6 @@ use Rattle.road.specs.declared.sound.SoundTown.{SoundTown}
 use Rattle.road.specs.Roads.{Town, Leg, street, from, Drive, times, Round, Sound}
 use Rattle.road.specs.Counts.{size, one, Set, all}
 use Rattle.road.specs.Limits.{Within}
-use Rattle.road.specs.Reach.{reached}
 use Rattle.road.specs.Numbers.{town-in, leg-in}
 use Rattle.road.specs.Refusals.{town-refusal, reach-refusal, plan-refusal, legs-refusal}
 use Rattle.road.specs.Faults.{fault}

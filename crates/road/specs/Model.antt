@@ -1,7 +1,6 @@
 -- The town that a value of the code stands for. Assumes nothing: these are definitions.
 use mathlib.Core.Bool.{Bool, false}
 use mathlib.Core.List.{List}
-use Prim.Native.Nat.{ℕ}
 use lib.ListN.{take, getD}
 use Rattle.road.specs.declared.town.Town.{Town}
 use Rattle.road.specs.Roads as roads

@@ -1,10 +1,10 @@
 // A drive over a list of legs: whether it is one, which street it leaves out, and its length.
-ghost use Prim.Native.Nat.{ℕ, _*_, _+_, _<_, _≤_};
+ghost use Prim.Native.Nat.{_*_, _+_, _<_, _≤_};
 ghost use mathlib.Core.Path.{_≡_};
 ghost use mathlib.Core.Bool.{true, false};
 ghost use lib.ListN.{length, replicate};
-ghost use Rattle.road.specs.Roads.{from as begin-of, into as end-of, far, times};
-ghost use Rattle.road.specs.Counts.{size, all};
+ghost use Rattle.road.specs.Roads.{from as begin-of, into as end-of, far};
+ghost use Rattle.road.specs.Counts.{all};
 ghost use Rattle.road.specs.Numbers.{leg-in, legs-in};
 ghost use Rattle.road.specs.Refusals.{Answers, legs-refusal};
 ghost use Rattle.road.specs.Faults.{begins as begins-at, leg-fault, street-fault, fault, Finds, Driven as Drove};

@@ -2,8 +2,8 @@
 ghost use Prim.Native.Nat.{ℕ, _<_};
 ghost use mathlib.Core.Path.{_≡_};
 ghost use mathlib.Core.Bool.{true, false};
-ghost use lib.ListN.{length, set, replicate};
-ghost use Rattle.road.specs.Counts.{size, cut, Side};
+ghost use lib.ListN.{set, replicate};
+ghost use Rattle.road.specs.Counts.{cut, Side};
 ghost use Rattle.road.specs.Reach.{reached};
 ghost use Rattle.road.specs.Model.{model, marked};
 ghost use Rattle.road.specs.Growth.{Grown, Closed, Tried};

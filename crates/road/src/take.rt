@@ -1,7 +1,7 @@
 // A town taken from numbers, or turned away.
 ghost use Prim.Native.Nat.{ℕ, _≤_, _<_, _/_};
 ghost use mathlib.Core.Path.{_≡_};
-ghost use lib.ListN.{length, getD, take, replicate};
+ghost use lib.ListN.{length, take, replicate};
 ghost use Rattle.road.specs.Roads.{no-street, street};
 ghost use Rattle.road.specs.Limits.{Within, within};
 ghost use Rattle.road.specs.Numbers.{streets-in, town-in};

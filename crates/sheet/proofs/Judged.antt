@@ -3,19 +3,18 @@ use mathlib.Core.Path.{_≡_, refl, sym, ap, ap₂, _∙_}
 use mathlib.Core.Bool.{Bool, true, false, not}
 use mathlib.Core.List.{List}
 use mathlib.Core.Logic.{_⊎_, inl, inr, ⊎-elim, _↔_}
-use Prim.Native.Nat.{ℕ, _+_, _*_, _/_, _%_, _≤_, _<_}
+use Prim.Native.Nat.{ℕ, _+_, _*_, _/_, _%_, _<_}
 use native.Mathlib.Omega.{arith}
 use lib.Dec.{leb, eqb}
 use lib.ListN.{length, getD}
 use Rattle.std.specs.declared.option.Option.{Option}
 use Rattle.std.specs.declared.option.Option.the-variants.{Some, None}
-use Rattle.std.proofs.shelf.Tests.{both-ways, leb-true, le-leb, eqb-true, eq-eqb, ne-eqb, eqb-false}
+use Rattle.std.proofs.shelf.Tests.{leb-true, le-leb, eqb-true, eq-eqb, ne-eqb, eqb-false}
 use Rattle.road.specs.declared.fault.Fault.{Fault}
-use Rattle.road.specs.declared.fault.Fault.the-variants.{Leg as AtLeg, Home, Street as LeftOut}
 use Rattle.road.specs.declared.leg.Leg.{Leg}
 use Rattle.road.specs.Roads.{pick, Town, street, Round, far}
 use Rattle.road.specs.Counts.{size, all}
-use Rattle.road.specs.First.{first, unless, unless-all, _then_}
+use Rattle.road.specs.First.{first, unless, _then_}
 use Rattle.road.specs.Faults.{fault}
 use Rattle.road.proofs.First.{Tests, tests-not, tests-all, tests-first, unless-some, unless-none, then-some, then-none}
 use Rattle.road.proofs.Faults.{fault-round}

@@ -1,5 +1,4 @@
 // The checker: the word on a round and a sheet that somebody brings.
-ghost use Prim.Native.Nat.{ℕ};
 ghost use mathlib.Core.Path.{_≡_};
 ghost use Rattle.road.specs.Numbers.{town-in, legs-in};
 ghost use Rattle.road.specs.Refusals.{Answers};

@@ -1,7 +1,5 @@
-use Prim.Native.Nat.{ℕ, _<_}
 use native.Mathlib.Omega.{arith}
-use borrow.Author.Needs.{needs}
-use lib.ListN.{length, length-set}
+use lib.ListN.{length-set}
 use Rattle.road.specs.Roads.{street, no-street}
 use Rattle.road.specs.Numbers.{town-in}
 use Rattle.road.proofs.Fill.{fill-more}

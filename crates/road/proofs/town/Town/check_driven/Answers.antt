@@ -1,8 +1,8 @@
-use mathlib.Core.Path.{_≡_, ap₂, _∙_}
-use mathlib.Core.Bool.{Bool, _||_, not}
+use mathlib.Core.Path.{ap₂}
+use mathlib.Core.Bool.{_||_, not}
 use native.Mathlib.Omega.{arith}
 use Rattle.road.specs.declared.fault.Fault.the-variants.{Street as LeftOut}
-use Rattle.road.specs.Model.{model, marked}
+use Rattle.road.specs.Model.{marked}
 use Rattle.road.proofs.First.{all-kept, first-broken}
 use Rattle.road.proofs.Models.{size-model}
 use Rattle.road.proofs.town.Town.check_driven.Needs as need

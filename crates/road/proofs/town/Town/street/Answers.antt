@@ -1,5 +1,4 @@
 use mathlib.Core.Path.{sym}
-use native.Mathlib.Omega.{arith}
 use borrow.Author.Needs.{needs}
 use Rattle.road.proofs.Models.{street-model, street-past}
 use Rattle.road.proofs.town.Town.street.Needs as need

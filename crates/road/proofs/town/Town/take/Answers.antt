@@ -1,5 +1,4 @@
 use mathlib.Core.Path.{sym, subst}
-use native.Mathlib.Omega.{arith}
 use Rattle.road.specs.Limits.{Within}
 use Rattle.road.proofs.Numbers.{street-read}
 use Rattle.road.proofs.town.Town.take.Needs as need

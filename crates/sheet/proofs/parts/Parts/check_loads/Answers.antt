@@ -1,6 +1,5 @@
-use mathlib.Core.Path.{_≡_, ap}
-use mathlib.Core.Bool.{Bool}
-use Prim.Native.Nat.{ℕ, _*_}
+use mathlib.Core.Path.{ap}
+use Prim.Native.Nat.{_*_}
 use native.Mathlib.Omega.{arith}
 use lib.Dec.{leb}
 use Rattle.std.proofs.shelf.Tests.{lt-leb}

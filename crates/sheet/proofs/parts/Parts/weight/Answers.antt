@@ -1,5 +1,5 @@
-use mathlib.Core.Path.{_≡_, sym, ap, subst}
-use Prim.Native.Nat.{ℕ, _≤_}
+use mathlib.Core.Path.{sym, subst}
+use Prim.Native.Nat.{_≤_}
 use lib.ListN.{getD}
 use Rattle.sheet.proofs.Places.{weight-at}
 use Rattle.sheet.proofs.parts.Parts.weight.Needs as need
