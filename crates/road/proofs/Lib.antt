@@ -1,3 +1,4 @@
+-- The lemmas, by topic.
 pub mod Parity
 pub mod Sums
 pub mod Find

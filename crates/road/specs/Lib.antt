@@ -1,3 +1,4 @@
+-- The definitions, by topic.
 pub mod Roads
 pub mod Counts
 pub mod Limits

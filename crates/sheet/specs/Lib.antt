@@ -1,3 +1,4 @@
+-- The definitions, by topic.
 pub mod Sheet
 pub mod Shown
 pub mod Numbers

@@ -1,3 +1,4 @@
+-- The lemmas, by topic.
 pub mod Least
 pub mod Relaxed
 pub mod Shown

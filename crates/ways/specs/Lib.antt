@@ -1,3 +1,4 @@
+-- The definitions, by topic.
 pub mod Least
 pub mod Shown
 pub mod Relaxed

@@ -3,7 +3,7 @@ use road::Town;
 use std::test::*;
 use ways::Way;
 
-pub fn town_of(crossings: u64, numbers: &[u64]) -> Result<Town, Fail> {
+pub(crate) fn town_of(crossings: u64, numbers: &[u64]) -> Result<Town, Fail> {
     match Town::take(crossings, numbers, 0) {
         Ok(town) => Ok(town),
         Err(_) => Err(Fail::new("the town was turned away")),
@@ -11,7 +11,7 @@ pub fn town_of(crossings: u64, numbers: &[u64]) -> Result<Town, Fail> {
 }
 
 // Whether the legs lead from a crossing to a crossing, and are as long together as the way says.
-pub fn leads(town: &Town, way: &Way, start: usize, end: usize) -> bool {
+pub(crate) fn leads(town: &Town, way: &Way, start: usize, end: usize) -> bool {
     let mut at = start;
     let mut length = 0u64;
     for leg in way.legs.iter() {

@@ -1,3 +1,4 @@
+-- The proof of the theorem that `far_counted_stands` stands for.
 use Rattle.road.proofs.laws.far_counted_stands.Needs as need
 use Rattle.road.proofs.Drives.{far-sum}
 

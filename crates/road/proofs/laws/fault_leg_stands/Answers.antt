@@ -1,3 +1,4 @@
+-- The proof of the theorem that `fault_leg_stands` stands for.
 use Rattle.road.proofs.laws.fault_leg_stands.Needs as need
 use Rattle.road.proofs.Faults.{fault-leg}
 

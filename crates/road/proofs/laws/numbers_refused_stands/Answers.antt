@@ -1,3 +1,4 @@
+-- The proof of the theorem that `numbers_refused_stands` stands for.
 use Rattle.road.proofs.laws.numbers_refused_stands.Needs as need
 use Rattle.road.proofs.Listed.{numbers-refused}
 

@@ -1,3 +1,4 @@
+-- The proof of the theorem that `sound_towns_stands` stands for.
 use Rattle.road.proofs.laws.sound_towns_stands.Needs as need
 use Rattle.road.proofs.Listed.{sound-towns}
 

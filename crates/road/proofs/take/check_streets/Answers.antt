@@ -1,3 +1,4 @@
+-- The steps of the proof of `check_streets` that are not found by search.
 use mathlib.Core.Path.{sym, ap, _∙_}
 use native.Mathlib.Omega.{arith}
 use borrow.Author.Count.{below-more}

@@ -1,3 +1,4 @@
+-- What the loop of `check_streets` keeps.
 use mathlib.Core.Path.{_≡_}
 use mathlib.Core.Bool.{true}
 use Prim.Native.Nat.{ℕ, _<_}

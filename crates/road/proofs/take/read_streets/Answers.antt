@@ -1,3 +1,4 @@
+-- The steps of the proof of `read_streets` that are not found by search.
 use native.Mathlib.Omega.{arith}
 use lib.ListN.{length-set}
 use Rattle.road.specs.Roads.{street, no-street}

@@ -1,3 +1,4 @@
+-- The steps of the proof of `street_at` that are not found by search.
 use mathlib.Core.Path.{sym}
 use Rattle.road.proofs.Numbers.{street-in}
 use Rattle.road.proofs.take.street_at.Needs as need

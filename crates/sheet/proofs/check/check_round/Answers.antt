@@ -1,3 +1,4 @@
+-- The steps of the proof of `check_round` that are not found by search.
 use mathlib.Core.Path.{sym}
 use Rattle.road.specs.Numbers.{town-in, legs-in}
 use Rattle.sheet.specs.Numbers.{sheet-in}

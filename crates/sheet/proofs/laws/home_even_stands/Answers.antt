@@ -1,3 +1,4 @@
+-- The proof of the theorem that `home_even_stands` stands for.
 use Rattle.sheet.proofs.laws.home_even_stands.Needs as need
 use Rattle.sheet.proofs.Borders.{home-even}
 

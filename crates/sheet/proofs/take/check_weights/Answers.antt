@@ -1,3 +1,4 @@
+-- The steps of the proof of `check_weights` that are not found by search.
 use Prim.Native.Nat.{ℕ, _+_, _*_}
 use native.Mathlib.Omega.{arith}
 use lib.Dec.{leb}

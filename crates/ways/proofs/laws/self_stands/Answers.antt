@@ -1,3 +1,4 @@
+-- The proof of the theorem that `self_stands` stands for.
 use Rattle.ways.proofs.laws.self_stands.Needs as need
 use Rattle.ways.proofs.Least.{least-self}
 

@@ -1,3 +1,4 @@
+-- The proof of the theorem that `unique_stands` stands for.
 use Rattle.ways.proofs.laws.unique_stands.Needs as need
 use Rattle.ways.proofs.Least.{least-unique}
 

@@ -1,3 +1,4 @@
+-- What the loop of `none_yet` keeps.
 use mathlib.Core.Path.{_≡_}
 use lib.ListN.{replicate}
 use Rattle.std.specs.Of.Vec.{vec-items}

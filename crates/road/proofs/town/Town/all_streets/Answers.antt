@@ -1,3 +1,4 @@
+-- The steps of the proof of `all_streets` that are not found by search.
 use mathlib.Core.Path.{_≡_, refl, sym, ap, _∙_}
 use native.Mathlib.Omega.{arith}
 use native.Mathlib.Numerals.{add-one}

@@ -1,3 +1,4 @@
+-- What the loop of `all_streets` keeps.
 use mathlib.Core.Path.{_≡_}
 use Prim.Native.Nat.{_*_, _≤_}
 use Rattle.road.specs.Roads.{street}

@@ -1,3 +1,4 @@
+-- The steps of the proof of `begin_of` that are not found by search.
 use mathlib.Core.Bool.{true, false}
 use native.Mathlib.Omega.{arith}
 use Rattle.road.specs.Model.{model}

@@ -1,3 +1,4 @@
+-- The steps of the proof of `check_as_round` that are not found by search.
 use mathlib.Core.Path.{subst}
 use native.Mathlib.Omega.{arith}
 use Rattle.std.specs.declared.option.Option.{Option}

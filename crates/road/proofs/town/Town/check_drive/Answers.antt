@@ -1,3 +1,4 @@
+-- The steps of the proof of `check_drive` that are not found by search.
 use mathlib.Core.Path.{subst}
 use Rattle.std.specs.declared.option.Option.{Option}
 use Rattle.road.specs.declared.fault.Fault.{Fault}

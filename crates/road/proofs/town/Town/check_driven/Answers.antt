@@ -1,3 +1,4 @@
+-- The steps of the proof of `check_driven` that are not found by search.
 use mathlib.Core.Path.{ap₂}
 use mathlib.Core.Bool.{_||_, not}
 use native.Mathlib.Omega.{arith}

@@ -1,3 +1,4 @@
+-- What the loop of `check_driven` keeps.
 use mathlib.Core.Path.{_≡_}
 use mathlib.Core.Bool.{true, _||_, not}
 use Prim.Native.Nat.{ℕ, _<_}

@@ -1,3 +1,4 @@
+-- The steps of the proof of `check_legs` that are not found by search.
 use Prim.Native.Nat.{_*_}
 use native.Mathlib.Omega.{arith}
 use lib.Dec.{ltb}

@@ -1,3 +1,4 @@
+-- The steps of the proof of `come_to` that are not found by search.
 use mathlib.Core.Path.{sym, subst}
 use native.Mathlib.Omega.{arith}
 use Rattle.road.specs.Model.{model, marked}

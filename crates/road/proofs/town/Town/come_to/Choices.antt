@@ -1,3 +1,4 @@
+-- What the loop of `come_to` keeps.
 use Rattle.road.specs.Model.{model}
 use Rattle.road.specs.Growth.{Grown, unmarked}
 use Rattle.road.proofs.town.Town.come_to.Given as given

@@ -1,3 +1,4 @@
+-- The steps of the proof of `drive` that are not found by search.
 use mathlib.Core.Path.{sym, subst}
 use mathlib.Core.Bool.{true}
 use Prim.Native.Nat.{_+_, _<_}

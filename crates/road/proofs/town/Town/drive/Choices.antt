@@ -1,3 +1,4 @@
+-- What the loop of `drive` keeps.
 use Rattle.road.specs.Model.{model}
 use Rattle.road.proofs.Legs.{Along}
 use Rattle.road.proofs.town.Town.drive.Given as given

@@ -1,3 +1,4 @@
+-- What the loop of `grow` keeps.
 use Rattle.road.specs.Model.{model}
 use Rattle.road.specs.Growth.{Grown, Tried, Closed}
 use Rattle.road.proofs.town.Town.grow.Given as given

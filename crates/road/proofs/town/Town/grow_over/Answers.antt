@@ -1,3 +1,4 @@
+-- The steps of the proof of `grow_over` that are not found by search.
 use mathlib.Core.Path.{refl}
 use mathlib.Core.Bool.{true}
 use native.Mathlib.Omega.{arith}

@@ -1,3 +1,4 @@
+-- The steps of the proof of `length` that are not found by search.
 use mathlib.Core.Path.{ap, _∙_}
 use mathlib.Core.List.{List}
 use Prim.Native.Nat.{ℕ}

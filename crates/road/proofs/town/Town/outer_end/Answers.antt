@@ -1,3 +1,4 @@
+-- The steps of the proof of `outer_end` that are not found by search.
 use native.Mathlib.Omega.{arith}
 use Rattle.road.specs.Model.{model, marked}
 use Rattle.road.proofs.Growth.{outer-two, outer-one}

@@ -1,3 +1,4 @@
+-- The steps of the proof of `street` that are not found by search.
 use mathlib.Core.Path.{sym}
 use borrow.Author.Needs.{needs}
 use Rattle.road.proofs.Models.{street-model, street-past}

@@ -1,3 +1,4 @@
+-- The steps of the proof of `take` that are not found by search.
 use mathlib.Core.Path.{sym, subst}
 use Rattle.road.specs.Limits.{Within}
 use Rattle.road.proofs.Numbers.{street-read}

@@ -1,3 +1,4 @@
+-- The steps of the proof of `begin` that are not found by search.
 use mathlib.Core.Path.{refl}
 use native.Mathlib.Omega.{arith}
 use Rattle.sheet.proofs.Places.{part-room}

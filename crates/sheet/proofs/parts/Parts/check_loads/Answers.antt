@@ -1,3 +1,4 @@
+-- The steps of the proof of `check_loads` that are not found by search.
 use mathlib.Core.Path.{ap}
 use Prim.Native.Nat.{_*_}
 use native.Mathlib.Omega.{arith}

@@ -1,3 +1,4 @@
+-- The steps of the proof of `check_odd` that are not found by search.
 use mathlib.Core.Path.{sym}
 use mathlib.Core.Bool.{Bool}
 use Prim.Native.Nat.{ℕ, _%_}

@@ -1,3 +1,4 @@
+-- The steps of the proof of `is_marked` that are not found by search.
 use Rattle.sheet.proofs.Places.{mark-at}
 use Rattle.sheet.proofs.parts.Parts.is_marked.Needs as need
 

@@ -1,3 +1,4 @@
+-- The steps of the proof of `is_odd` that are not found by search.
 use mathlib.Core.Path.{_≡_, sym, ap, ap₂, _∙_}
 use native.Mathlib.Omega.{arith}
 use lib.ListN.{getD}

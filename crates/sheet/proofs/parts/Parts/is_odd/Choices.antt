@@ -1,3 +1,4 @@
+-- What the loop of `is_odd` keeps.
 use mathlib.Core.Path.{_≡_}
 use lib.ListN.{getD}
 use Rattle.road.specs.Roads.{street}

@@ -1,3 +1,4 @@
+-- The steps of the proof of `leads_out` that are not found by search.
 use lib.ListN.{getD}
 use Rattle.road.specs.Roads.{street}
 use Rattle.sheet.specs.Sheet.{no-part}

@@ -1,3 +1,4 @@
+-- The steps of the proof of `load` that are not found by search.
 use mathlib.Core.Path.{_≡_, ap}
 use native.Mathlib.Omega.{arith}
 use lib.ListN.{getD}

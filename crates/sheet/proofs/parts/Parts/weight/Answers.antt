@@ -1,3 +1,4 @@
+-- The steps of the proof of `weight` that are not found by search.
 use mathlib.Core.Path.{sym, subst}
 use Prim.Native.Nat.{_≤_}
 use lib.ListN.{getD}

@@ -1,3 +1,4 @@
+-- The steps of the proof of `weights` that are not found by search.
 use native.Mathlib.Omega.{arith}
 use Rattle.sheet.specs.Model.{parts-of}
 use Rattle.sheet.proofs.Borders.{weights-more, weights-all}

@@ -1,3 +1,4 @@
+-- The steps of the proof of `come_over` that are not found by search.
 use mathlib.Core.Path.{refl, sym, ap, _∙_}
 use mathlib.Core.Bool.{true}
 use Prim.Native.Nat.{_+_}

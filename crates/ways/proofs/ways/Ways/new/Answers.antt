@@ -1,3 +1,4 @@
+-- The steps of the proof of `new` that are not found by search.
 use mathlib.Core.Path.{subst, sym}
 use native.Mathlib.Omega.{arith}
 use Rattle.road.specs.Model.{model}

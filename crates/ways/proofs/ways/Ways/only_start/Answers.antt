@@ -1,3 +1,4 @@
+-- The steps of the proof of `only_start` that are not found by search.
 use mathlib.Core.Path.{refl, ap}
 use native.Mathlib.Omega.{arith}
 use lib.ListN.{length}

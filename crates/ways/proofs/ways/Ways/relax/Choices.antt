@@ -1,3 +1,4 @@
+-- What the loop of `relax` keeps.
 use mathlib.Core.Path.{_≡_}
 use Rattle.road.specs.Model.{model}
 use Rattle.ways.specs.Relaxed.{Come, weights}

@@ -1,3 +1,4 @@
+-- The steps of the proof of `sweep` that are not found by search.
 use Rattle.road.specs.Model.{model}
 use Rattle.ways.proofs.Relaxed.{tried-street}
 use Rattle.ways.proofs.ways.Ways.sweep.Needs as need

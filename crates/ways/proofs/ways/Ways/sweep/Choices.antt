@@ -1,3 +1,4 @@
+-- What the loop of `sweep` keeps.
 use Rattle.road.specs.Model.{model}
 use Rattle.ways.specs.Relaxed.{Come, Tried, Closed}
 use Rattle.ways.proofs.ways.Ways.sweep.Given as given
