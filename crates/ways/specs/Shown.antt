@@ -46,4 +46,4 @@ pub record All-shown (t : Town) (start : ℕ) (ws : Ways) : Type 0 where
 -- of n crossings, v is refused just if it is none of them; else only memory can be wanting
 abbrev pub Refuses : ℕ → ℕ → NoWays → Type 0
 Refuses n v (NoCrossing c) = (c ≡ v) × (n ≤ v)
-Refuses n v Memory = v < n
+Refuses n v (Memory e) = v < n
