@@ -3,7 +3,6 @@ use mathlib.Core.Path.{_≡_, refl, sym, ap, _∙_}
 use mathlib.Core.Bool.{Bool, true, false}
 use mathlib.Core.List.{List, [], _∷_}
 use Prim.Native.Nat.{ℕ, _+_, _*_, _%_, _≤_, _<_}
-use native.Mathlib.Numerals.{add-one}
 use native.Mathlib.Omega.{arith}
 use lib.Dec.{eqb}
 use lib.ListN.{length, getD, drop}
@@ -11,8 +10,8 @@ use Rattle.std.proofs.shelf.Lists.{at-drop-more, at-drop-all}
 use Rattle.road.specs.declared.street.Street.{Street}
 use Rattle.road.specs.declared.leg.Leg.{Leg}
 use Rattle.road.specs.Roads.{pick, Town, street, Drive, times, no-street}
-use Rattle.road.specs.Counts.{_⊕_, bit, odd, sum, par, size, cut}
-use Rattle.road.proofs.Parity.{xor-comm, odd-bit, odd-mod}
+use Rattle.road.specs.Counts.{bit, odd, sum, par, size, cut}
+use Rattle.road.proofs.Parity.{odd-bit, odd-mod}
 use Rattle.road.proofs.Sums.{sum-front, par-ext, odd-sum}
 use Rattle.road.proofs.Drives.{along, along-sum, drive-cut}
 use Rattle.road.specs.Model.{marked}
@@ -66,15 +65,6 @@ ways-odd t ms =
     test : (b : Bool) → b ≡ eqb (bit b) 1
     test true = refl
     test false = refl
-
--- one street more
-pub par-more : (n : ℕ) (f : ℕ → Bool) → par (n + 1) f ≡ par n f ⊕ f n
-unfolding par
-par-more n f = rw add-one (xor-comm (f n) (par n f))
-
-pub par-zero : (f : ℕ → Bool) → par 0 f ≡ false
-unfolding par
-par-zero f = refl
 
 -- what the parts from place i on weigh, and what a street bears of them
 pub load-more : (ps : List Part) (i : ℕ) (s : Street) → i < length ps →

@@ -1,6 +1,6 @@
 -- Parts as numbers: what stands at which place. Assumes nothing.
 use mathlib.Core.Path.{_≡_, refl, sym, ap, ap₂, _∙_}
-use mathlib.Core.Bool.{Bool, true, false, not, Bool·beq}
+use mathlib.Core.Bool.{Bool, false, not, Bool·beq}
 use mathlib.Core.List.{List, [], _∷_}
 use Prim.Native.Nat.{ℕ, zero, suc, _+_, _*_, _/_, _<_}
 use native.Mathlib.Nat.{suc-mul, zero-mul, mul-le-mul-right, div-mul-le-self}
@@ -11,6 +11,7 @@ use Rattle.std.proofs.shelf.Lists.{drop-drop, getD-drop, getD-take}
 use Rattle.road.specs.declared.street.Street.{Street}
 use Rattle.road.specs.Counts.{_⊕_}
 use Rattle.road.specs.Model.{marked}
+use Rattle.road.proofs.Parity.{unequal}
 use Rattle.sheet.specs.Sheet.{Part, no-part, leads-out}
 use Rattle.sheet.specs.Numbers.{marks-in, parts-in}
 
@@ -53,12 +54,6 @@ mark-at m n xs i a v h e l =
     ∙ getD-marks (take n (drop 1 (drop (i * (1 + n)) xs))) v
     ∙ ap (ltb 0) (getD-take n (drop 1 (drop (i * (1 + n)) xs)) v 0 l ∙ getD-drop 1 (drop (i * (1 + n)) xs) v 0 ∙ getD-drop (i * (1 + n)) xs (1 + v) 0 ∙ ap (λ z. getD xs z 0) (omega arith))
     )
-
-pub unequal : (a b : Bool) → not (Bool·beq a b) ≡ a ⊕ b
-unequal true true = refl
-unequal true false = refl
-unequal false true = refl
-unequal false false = refl
 
 -- a place of a whole part is one of the list
 pub place-low : (n : ℕ) (xs : List ℕ) (i : ℕ) → i < length xs / (1 + n) → i * (1 + n) + n < length xs

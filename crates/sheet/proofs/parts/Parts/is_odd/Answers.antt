@@ -5,10 +5,11 @@ use lib.ListN.{getD}
 use Rattle.road.specs.Roads.{street}
 use Rattle.road.specs.Counts.{_⊕_, par, size}
 use Rattle.road.proofs.Models.{size-model}
+use Rattle.road.proofs.Parity.{unequal}
+use Rattle.road.proofs.Sums.{par-more, par-zero}
 use Rattle.sheet.specs.Sheet.{no-part, leads-out}
 use Rattle.sheet.specs.Model.{parts-of, town-of}
-use Rattle.sheet.proofs.Borders.{ways-odd, par-more, par-zero}
-use Rattle.sheet.proofs.Places.{unequal}
+use Rattle.sheet.proofs.Borders.{ways-odd}
 use Rattle.sheet.proofs.parts.Parts.is_odd.Needs as need
 
 pub loop-k-holds : need.loop-k-holds
