@@ -48,7 +48,7 @@ fault t v w must ls = leg-fault t v ls then (unless (eqb (end t v ls) w) Home th
 abbrev pub Finds : {A : Type 0} → Option Fault → (A → Type 0) → Result A Fault → Type 0
 Finds due P r = Says (λ f. f) due P r
 
--- the legs are a drive from v to w, and just the streets that it drives are marked
+-- the legs from v end at w, and just the streets that they drive are marked
 pub record Driven (t : Town) (v : ℕ) (ls : List Leg) (w : ℕ) (ms : List Bool) : Type 0 where
   pub there : end t v ls ≡ w
   pub marks : (k : ℕ) → k < size t → marked ms k ≡ drives ls k

@@ -8,6 +8,9 @@ use lib.ListN.{length, getD}
 pub use Rattle.road.specs.declared.street.Street.{Street}
 pub use Rattle.road.specs.declared.leg.Leg.{Leg}
 
+-- a street has two ends, one and two, and a length; a leg goes by a street, from one to two or back: both are the structs of the code
+
+-- one of two values, by a test
 abbrev pub pick : {A : Type 0} → Bool → A → A → A
 pick true a b = a
 pick false a b = b
