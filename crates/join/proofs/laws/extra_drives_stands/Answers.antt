@@ -1,0 +1,5 @@
+use Rattle.join.proofs.laws.extra_drives_stands.Needs as need
+use Rattle.join.proofs.Theorem.{extra-drives}
+
+pub returns : need.returns
+returns c = extra-drives

@@ -1,0 +1,6 @@
+use mathlib.Core.Bool.{true, false}
+use Rattle.std.proofs.shelf.Lists.{getD-replicate}
+use Rattle.join.proofs.sets.all_streets.Needs as need
+
+pub returns : need.returns
+returns c = λ k h. getD-replicate 300 k true false h

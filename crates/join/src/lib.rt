@@ -1,0 +1,19 @@
+// The least extra drives of a town, and the numbers that show that they are least.
+mod cut;
+mod cuts;
+mod first_prices;
+mod laws;
+mod level;
+mod look;
+mod partition;
+mod prices;
+mod problem;
+mod relax;
+mod sets;
+mod start;
+mod stage;
+mod turn;
+mod turns;
+mod unite;
+mod weigh;
+mod weighted;
