@@ -8,10 +8,10 @@ use native.Mathlib.Omega.{arith}
 use lib.Dec.{eqb}
 use Rattle.std.proofs.shelf.Tests.{eqb-true, eq-eqb, ne-eqb, cases-bool, both-ways, cases-lt}
 use Rattle.road.specs.Roads.{Town}
-use Rattle.road.specs.Counts.{_⊕_, size, Set, cut, Side}
+use Rattle.road.specs.Counts.{_⊕_, size, Set, cut}
 use Rattle.road.proofs.Parity.{xor-false, xor-same}
 use Rattle.road.proofs.Cuts.{side-cut, side-turn}
-use Rattle.join.specs.Joins.{_⊞_, single, Joins, at, cost, outs, Zero, Long, Room}
+use Rattle.join.specs.Joins.{_⊞_, single, Joins, at, cost, outs, Zero, Long}
 use Rattle.join.specs.Exchange.{Exit, Stage, Circuit, circuit, go-out}
 use Rattle.join.proofs.Joins.{out-none, join-on, join-back, join-even, side-join}
 use Rattle.join.proofs.Cost.{cost-zero, cost-drop, cost-swap, outs-two}

@@ -1,3 +1,4 @@
+-- The lemmas, by topic.
 pub mod Joins
 pub mod Reach
 pub mod Cost
@@ -22,3 +23,4 @@ pub mod Stages
 pub mod Looking
 pub mod Starting
 pub mod Charging
+pub mod Growing

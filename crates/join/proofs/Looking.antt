@@ -2,7 +2,7 @@
 use denote.Ref.{now}
 use mathlib.Core.Path.{_≡_, refl, sym, ap, ap₂, subst, _∙_}
 use mathlib.Core.Bool.{Bool, true, false}
-use Prim.Native.Nat.{ℕ, _+_, _*_, _<_, _≤_}
+use Prim.Native.Nat.{ℕ, _<_, _≤_}
 use native.Mathlib.Omega.{arith}
 use Rattle.std.proofs.shelf.Tests.{both-ways}
 use Rattle.road.specs.Roads.{Town}
@@ -13,12 +13,12 @@ use Rattle.join.specs.declared.level.Level.{Level}
 use Rattle.join.specs.declared.partition.Classes.{Classes}
 use Rattle.join.specs.declared.prices.Prices.{Prices}
 use Rattle.join.specs.declared.problem.Problem.{Problem}
-use Rattle.join.specs.Joins.{_⊞_, single, Joins, cost, Zero, Class, Room}
+use Rattle.join.specs.Joins.{_⊞_, single, cost, Zero, Class, Room}
 use Rattle.join.specs.Exchange.{Exit}
 use Rattle.join.specs.Weights.{inner, outer}
 use Rattle.join.specs.Prices.{town-in, start-in, reached-in, extra-in}
 use Rattle.join.specs.Classes.{Classed, Merged, class-in, way-in}
-use Rattle.join.specs.Potentials.{Potential, Cheaper, Lowest, slack, Tightest, Attained}
+use Rattle.join.specs.Potentials.{Cheaper, Lowest, slack, Tightest}
 use Rattle.join.specs.Turns.{lengths-at, potential-at, Pass, Charged}
 use Rattle.join.proofs.StreetSets.{ends-below}
 use Rattle.join.proofs.Uniting.{class-is, class-way}

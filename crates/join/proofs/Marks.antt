@@ -11,7 +11,6 @@ use Rattle.road.specs.Roads.{Town, street}
 use Rattle.road.specs.Counts.{_⊕_, when, bit, odd, par, size, one, two, Set, cut, all}
 use Rattle.road.proofs.Parity.{odd-bit, odd-mod}
 use Rattle.road.proofs.Sums.{par-ext, odd-sum}
-use Rattle.road.specs.Model.{marked}
 use Rattle.sheet.specs.Sheet.{leads-out, ways-out}
 use Rattle.sheet.proofs.Borders.{leads-cut, ways-out-sum}
 use Rattle.join.specs.Joins.{out}

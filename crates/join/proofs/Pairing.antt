@@ -87,10 +87,10 @@ module _ (t : Town) (K Q : Set) (v w : ℕ) (q : Joins t (at v) w Q) where
       let n = t .crossings in
       let one-less : ℕ → ℕ = λ u. bit (odd-at t K u ⊕ eqb v u) in
       let a = sum-point n v 1 (λ u. bit (odd-at t K u)) one-less hv (omega (arith, ap bit ov, ap₂ (λ x y. bit (x ⊕ y)) ov (eq-eqb v v refl)))
-          (λ u _ d. ap bit (sym (ap (λ z. odd-at t K u ⊕ z) (ne-eqb v u d) ∙ xor-false (odd-at t K u)))) in
+      (λ u _ d. ap bit (sym (ap (λ z. odd-at t K u ⊕ z) (ne-eqb v u d) ∙ xor-false (odd-at t K u)))) in
       let b = sum-point n w 1 one-less (λ u. bit (odd-at t (K ⊞ Q) u)) hw
-          (omega (arith, ap₂ (λ x y. bit (x ⊕ y)) ow (ne-eqb v w ne), ap bit (odd-changed w), ap₂ (λ x y. bit (x ⊕ y)) (ap₂ (λ x y. x ⊕ y) ow (ne-eqb v w ne)) (eq-eqb w w refl)))
-          (λ u _ d. ap bit (sym (odd-changed u ∙ ap (λ z. (odd-at t K u ⊕ eqb v u) ⊕ z) (ne-eqb w u d) ∙ xor-false (odd-at t K u ⊕ eqb v u)))) in
+      (omega (arith, ap₂ (λ x y. bit (x ⊕ y)) ow (ne-eqb v w ne), ap bit (odd-changed w), ap₂ (λ x y. bit (x ⊕ y)) (ap₂ (λ x y. x ⊕ y) ow (ne-eqb v w ne)) (eq-eqb w w refl)))
+      (λ u _ d. ap bit (sym (odd-changed u ∙ ap (λ z. (odd-at t K u ⊕ eqb v u) ⊕ z) (ne-eqb w u d) ∙ xor-false (odd-at t K u ⊕ eqb v u)))) in
       omega (arith, a, b)
 
 -- an odd crossing can come to another

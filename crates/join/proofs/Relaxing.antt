@@ -1,19 +1,19 @@
 -- How sets and prices change at one crossing. Assumes nothing.
 use denote.Ref.{now}
-use mathlib.Core.Path.{_≡_, refl, sym, ap, _∙_}
+use mathlib.Core.Path.{_≡_, sym, ap, _∙_}
 use mathlib.Core.Bool.{Bool, true, false, not}
 use mathlib.Core.Logic.{⊎-elim}
 use mathlib.Core.List.{List, []}
 use Prim.Native.Nat.{ℕ, _+_, _-_, _<_, _≤_}
 use native.Mathlib.Omega.{arith}
 use lib.IntN.{ℤ, pos}
-use lib.ListN.{length, getD, set}
+use lib.ListN.{length, set}
 use Rattle.std.specs.Changed.{with-item}
 use Rattle.std.specs.Of.Vec.{vec-items}
 use Rattle.std.proofs.shelf.Lists.{length-set, getD-set-same, getD-set-other}
 use Rattle.std.proofs.shelf.Tests.{cases-eq}
 use Rattle.road.specs.Roads as roads
-use Rattle.road.specs.Counts.{size, one, two, Side, forth, back}
+use Rattle.road.specs.Counts.{size, Side, forth, back}
 use Rattle.road.specs.Model.{marked}
 use Rattle.road.proofs.Models.{size-model}
 use Rattle.road.proofs.Sums.{sum-point}

@@ -1,23 +1,23 @@
 -- One stage of a pass: what a class can be charged, and what is left after it. Assumes nothing.
 use mathlib.Core.Path.{_≡_, refl, sym, ap, ap₂, _∙_}
 use mathlib.Core.Bool.{Bool, true, false, not, _&&_}
-use mathlib.Core.Logic.{_⊎_, ⊎-elim, inl, inr}
+use mathlib.Core.Logic.{_⊎_, ⊎-elim}
 use Prim.Native.Nat.{ℕ, zero, suc, _+_, _-_, _*_, _%_, _<_, _≤_}
 use native.Mathlib.Nat.{mul-suc}
 use native.Mathlib.Omega.{arith}
 use lib.Dec.{eqb}
-use Rattle.std.proofs.shelf.Tests.{cases-eq, cases-lt, cases-bool, both-ways, eqb-true, eq-eqb, ne-eqb}
+use Rattle.std.proofs.shelf.Tests.{cases-eq, cases-bool, both-ways, eqb-true, eq-eqb}
 use Rattle.road.specs.Roads.{Town}
-use Rattle.road.specs.Counts.{_⊕_, when, bit, odd, size, one, two, Set, cut, Side, forth, back}
-use Rattle.road.proofs.Parity.{xor-same, xor-self, xor-false}
+use Rattle.road.specs.Counts.{_⊕_, when, odd, size, one, two, Set, cut, Side, forth, back}
+use Rattle.road.proofs.Parity.{xor-same, xor-self}
 use Rattle.road.proofs.Cuts.{side-cut, side-turn, cut-side}
 use Rattle.join.specs.Weights.{end-of, inner, outer}
-use Rattle.join.specs.Joins.{_⊞_, single, out, Joins, at, cost, outs, Zero, Zero-way, Long, Class, Room, shorter}
+use Rattle.join.specs.Joins.{_⊞_, single, Joins, at, cost, outs, Zero, Zero-way, Class, Room, shorter}
 use Rattle.join.proofs.Joins.{out-none, join-on, join-back, join-between, side-join}
-use Rattle.join.proofs.Cost.{cost-drop, cost-zero, cost-none, outs-odd, some-out, cost-short}
+use Rattle.join.proofs.Cost.{cost-drop, cost-zero, cost-none, outs-odd, cost-short}
 use Rattle.join.specs.Exchange.{Exit, Stage}
 use Rattle.join.proofs.Exchange.{border, over-joins, over-cost}
-use Rattle.join.specs.Potentials.{Potential, Cheaper, lower, Lowest, slack, Tightest, Attained}
+use Rattle.join.specs.Potentials.{Potential, Cheaper, lower, Lowest, slack, Tightest}
 
 times : (a n : ℕ) → 1 ≤ n → a ≤ a * n
 times a zero h = absurd (omega arith)

@@ -3,10 +3,10 @@ use mathlib.Core.Path.{_≡_, refl, sym, ap, ap₂, _∙_, subst, fun-ext}
 use mathlib.Core.Bool.{Bool, true, false, _&&_}
 use mathlib.Core.Logic.{⊎-elim}
 use mathlib.Core.List.{List, []}
-use Prim.Native.Nat.{ℕ, _+_, _<_, _≤_}
+use Prim.Native.Nat.{ℕ, _+_, _<_}
 use native.Mathlib.Omega.{arith}
 use lib.Dec.{eqb, ltb}
-use lib.ListN.{length, getD, set}
+use lib.ListN.{length, set}
 use Rattle.std.specs.Changed.{with-item}
 use Rattle.std.specs.Of.Vec.{vec-items}
 use Rattle.std.proofs.shelf.Lists.{length-set, getD-set-same, getD-set-other, getD-past}
@@ -17,7 +17,7 @@ use Rattle.road.specs.Model.{marked}
 use Rattle.road.proofs.Parity.{xor-true, xor-self, xor-cancel, xor-assoc, xor-swap}
 use Rattle.join.specs.declared.partition.Classes.{Classes}
 use Rattle.join.specs.Joins.{_⊞_, single, Joins, at, Zero, Class}
-use Rattle.join.specs.Classes.{label-in, way-in, Full, Classed, Merged, Absorbed, Kept, class-in}
+use Rattle.join.specs.Classes.{label-in, way-in, Classed, Merged, Absorbed, Kept, class-in}
 use Rattle.join.proofs.Joins.{join-on, join-back, side-join}
 
 -- streets in one of two sets of no length have none

@@ -1,3 +1,4 @@
+-- The definitions, by topic.
 pub mod Joins
 pub mod Extra
 pub mod Amounts
@@ -10,3 +11,4 @@ pub mod Potentials
 pub mod Turns
 pub mod First
 pub mod Written
+pub mod Components

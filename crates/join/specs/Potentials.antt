@@ -1,9 +1,9 @@
 -- Potentials of crossings at a stage of a pass: what a set of extra drives for each may cost. Assumes nothing: these are definitions.
 use mathlib.Core.Path.{_≡_}
-use mathlib.Core.Bool.{Bool, true, false, not, _&&_}
+use mathlib.Core.Bool.{Bool, true, not, _&&_}
 use Prim.Native.Nat.{ℕ, _+_, _-_, _*_, _/_, _%_, _≤_, _<_}
 use Rattle.road.specs.Roads.{Town}
-use Rattle.road.specs.Counts.{when, size, one, Set, cut, Side}
+use Rattle.road.specs.Counts.{when, size, Set, cut, Side}
 use Rattle.join.specs.Joins.{Joins, cost}
 use Rattle.join.specs.Weights.{outer}
 

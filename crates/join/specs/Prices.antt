@@ -6,7 +6,7 @@ use Prim.Native.Nat.{ℕ, _+_, _<_, _≤_}
 use lib.ListN.{length}
 use Rattle.std.specs.Of.Vec.{vec-items}
 use Rattle.road.specs.Roads.{Town}
-use Rattle.road.specs.Counts.{sum, size, Set}
+use Rattle.road.specs.Counts.{sum, Set}
 use Rattle.road.specs.Model.{model, marked}
 use Rattle.join.specs.declared.problem.Problem.{Problem}
 use Rattle.join.specs.declared.prices.Prices.{Prices}

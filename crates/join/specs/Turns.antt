@@ -2,11 +2,11 @@
 use mathlib.Core.Path.{_≡_}
 use mathlib.Core.Bool.{Bool, true}
 use Prim.Native.Nat.{ℕ, _≤_, _<_}
-use lib.IntN.{ℤ, pos}
+use lib.IntN.{pos}
 use lib.ListN.{length}
 use Rattle.std.specs.Of.Vec.{vec-items}
 use Rattle.road.specs.Roads.{Town}
-use Rattle.road.specs.Counts.{size, Set, cut}
+use Rattle.road.specs.Counts.{Set}
 use Rattle.road.specs.Model.{marked}
 use Rattle.join.specs.declared.level.Level.{Level}
 use Rattle.join.specs.declared.prices.Prices.{Prices}

@@ -1,7 +1,7 @@
 // The streets that lead out of a set of crossings.
-ghost use Prim.Native.Nat.{ℕ, _<_, _≤_};
+ghost use Prim.Native.Nat.{ℕ, _<_};
 ghost use mathlib.Core.Path.{_≡_};
-ghost use mathlib.Core.Bool.{not, true, false};
+ghost use mathlib.Core.Bool.{true, false};
 ghost use Rattle.std.specs.Options.{Cases as BySome};
 ghost use Rattle.road.specs.Counts.{size, cut as cuts};
 ghost use Rattle.road.specs.Model.{model, marked};

@@ -1,15 +1,14 @@
 // The first sets of extra drives and their prices: the depot's set, and on along a shortest way to each crossing.
-ghost use Prim.Native.Nat.{ℕ, _+_, _<_};
+ghost use Prim.Native.Nat.{_+_, _<_};
 ghost use mathlib.Core.Path.{_≡_};
 ghost use mathlib.Core.Bool.{true};
-ghost use lib.ListN.{length, replicate};
+ghost use lib.ListN.{replicate};
 ghost use lib.IntN.{pos};
 ghost use Rattle.std.specs.Vec.{made};
-ghost use Rattle.std.specs.Of.Vec.{vec-items};
 ghost use Rattle.road.specs.Model.{model, marked};
 ghost use Rattle.ways.specs.Shown.{All-shown};
 ghost use Rattle.join.specs.Joins.{Joins, cost};
-ghost use Rattle.join.specs.Prices.{town-in, costs-in, start-in, reached-in, Priced};
+ghost use Rattle.join.specs.Prices.{town-in, start-in, reached-in, Priced};
 ghost use Rattle.join.specs.First.{Leads, Rooted, Begun};
 use crate::prices::Prices;
 use crate::problem::Problem;
@@ -53,7 +52,13 @@ fn set_for(problem: &Problem, home: &[bool; 300], ways: &Ways, u: usize) -> [boo
 
 impl Prices {
     // Adds the set for crossing u, and its price.
-    fn add(&mut self, problem: &Problem, home: &[bool; 300], ways: &Ways, u: usize) -> Result<(), AllocError>
+    fn add(
+        &mut self,
+        problem: &Problem,
+        home: &[bool; 300],
+        ways: &Ways,
+        u: usize,
+    ) -> Result<(), AllocError>
         requires rooted { ⌜ Rooted (now problem) (marked (now home)) (now ways) ⌝ }
         requires begun { ⌜ Begun (now problem) (now self) u ⌝ ∗ ⌜ u < 100 ⌝ }
         ensures { λ r. ⌜ made r (λ _. Begun (now (problem .entry)) (now (self .exit)) (u + 1)) ⌝ }
@@ -70,7 +75,12 @@ impl Prices {
     }
 
     // A set for each crossing that can be come to, from a set that leads to the depot.
-    pub(crate) fn first(problem: &Problem, home: &[bool; 300], ways: &Ways, heap: Global) -> Result<Prices, AllocError>
+    pub(crate) fn first(
+        problem: &Problem,
+        home: &[bool; 300],
+        ways: &Ways,
+        heap: Global,
+    ) -> Result<Prices, AllocError>
         requires { ⌜ Rooted (now problem) (marked (now home)) (now ways) ⌝ }
         ensures { λ r. ⌜ made r (λ q. Priced (now (problem .entry)) q) ⌝ }
     {

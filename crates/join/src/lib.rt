@@ -1,7 +1,9 @@
 // The least extra drives of a town, and the numbers that show that they are least.
+mod component;
 mod cut;
 mod cuts;
 mod first_prices;
+mod grow;
 mod laws;
 mod level;
 mod look;
@@ -10,8 +12,8 @@ mod prices;
 mod problem;
 mod relax;
 mod sets;
-mod start;
 mod stage;
+mod start;
 mod turn;
 mod turns;
 mod unite;

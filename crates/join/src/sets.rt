@@ -2,7 +2,7 @@
 ghost use Prim.Native.Nat.{ℕ, _<_};
 ghost use mathlib.Core.Path.{_≡_};
 ghost use mathlib.Core.Bool.{true, false};
-ghost use lib.ListN.{replicate};
+ghost use lib.ListN.{replicate, set};
 ghost use Rattle.road.specs.Model.{marked};
 ghost use Rattle.join.specs.Joins.{_⊞_, single};
 
@@ -37,4 +37,20 @@ pub(crate) fn all_streets() -> [bool; 300]
     ensures { λ r. ⌜ ((k : ℕ) → k < 300 → marked r k ≡ true) ⌝ }
 {
     [true; 300]
+}
+
+pub(crate) fn no_streets() -> [bool; 300]
+    ensures { λ r. ⌜ r ≡ replicate 300 false ⌝ }
+{
+    [false; 300]
+}
+
+// One crossing.
+pub(crate) fn only(v: usize) -> [bool; 100]
+    requires { ⌜ v < 100 ⌝ }
+    ensures { λ r. ⌜ r ≡ set (replicate 100 false) v true ⌝ }
+{
+    let mut marks = [false; 100];
+    marks[v] = true;
+    marks
 }

@@ -131,7 +131,11 @@ fn pair(town: &Town, set: &[bool; 300], v: usize, heap: Global) -> Result<[bool;
 }
 
 // Extra drives with which the required streets make every crossing even.
-pub(crate) fn pair_off(town: &Town, required: &[bool; 300], heap: Global) -> Result<[bool; 300], AllocError>
+pub(crate) fn pair_off(
+    town: &Town,
+    required: &[bool; 300],
+    heap: Global,
+) -> Result<[bool; 300], AllocError>
     ensures { λ r. ⌜ made r (λ extra. Joins (model (now (town .entry))) (once (model (now (town .entry))) (marked (now (required .entry))) (now (town .entry) .depot)) (now (town .entry) .depot) (marked extra)) ⌝ }
 {
     let mut left = *required;

@@ -3,7 +3,6 @@ ghost use Prim.Native.Nat.{ℕ, _<_, _≤_};
 ghost use mathlib.Core.Path.{_≡_};
 ghost use mathlib.Core.Bool.{true, false};
 ghost use lib.IntN.{pos};
-ghost use lib.ListN.{length};
 ghost use Rattle.road.specs.Counts.{size, cut as cuts};
 ghost use Rattle.road.specs.Model.{marked};
 ghost use Rattle.join.specs.Joins.{shorter};

@@ -1,5 +1,5 @@
 // Classes merged along the streets of no length.
-ghost use Prim.Native.Nat.{ℕ, _<_, _≤_};
+ghost use Prim.Native.Nat.{_<_};
 ghost use mathlib.Core.Path.{_≡_};
 ghost use lib.ListN.{length};
 ghost use Rattle.road.specs.Counts.{one, two};

@@ -1,5 +1,4 @@
 // A town with a length for each of its streets, in half metres.
-ghost use Prim.Native.Nat.{ℕ};
 ghost use denote.Ref.{now};
 ghost use Rattle.join.specs.Amounts.{Whole, Most};
 use road::Town;

@@ -1,3 +1,4 @@
+-- The steps of the proof of `all_streets` that are not found by search.
 use mathlib.Core.Bool.{true, false}
 use Rattle.std.proofs.shelf.Lists.{getD-replicate}
 use Rattle.join.proofs.sets.all_streets.Needs as need

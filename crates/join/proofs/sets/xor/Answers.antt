@@ -1,3 +1,4 @@
+-- The steps of the proof of `xor` that are not found by search.
 use native.Mathlib.Omega.{arith}
 use Rattle.road.specs.Model.{marked}
 use Rattle.join.specs.Joins.{_⊞_}

@@ -17,10 +17,10 @@ loop-leg-holds c = (c .told-set, streets-start (c .args .set .now))
 
 pub loop-leg-again : need.loop-leg-again
 loop-leg-again c = (
-    search needs,
-    streets-more (c .args .set .now) (c .loop-leg .out) (c .args .legs .now) (c .loop-leg .leg-index) (getD (c .args .legs .now) (c .loop-leg .leg-index) no-leg) (c .flip-out .result)
-    (c .loop-leg-test .taken) refl (c .loop-leg .inv .1) (c .flip-out .ensures),
-  )
+  search needs,
+  streets-more (c .args .set .now) (c .loop-leg .out) (c .args .legs .now) (c .loop-leg .leg-index) (getD (c .args .legs .now) (c .loop-leg .leg-index) no-leg) (c .flip-out .result)
+      (c .loop-leg-test .taken) refl (c .loop-leg .inv .1) (c .flip-out .ensures),
+)
 
 pub returns : need.returns
 returns c =

@@ -1,4 +1,5 @@
-use mathlib.Core.Path.{_≡_, ap, subst}
+-- The steps of the proof of `charge_crossings` that are not found by search.
+use mathlib.Core.Path.{ap, subst}
 use mathlib.Core.Bool.{false, not, _&&_}
 use native.Mathlib.Omega.{arith}
 use mir.Syntax.{w64}

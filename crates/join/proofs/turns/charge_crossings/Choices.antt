@@ -1,3 +1,4 @@
+-- What the loop of `charge_crossings` keeps.
 use mathlib.Core.Path.{_≡_}
 use lib.ListN.{length}
 use Rattle.road.specs.Model.{marked}

@@ -1,3 +1,4 @@
+-- What the loop of `exit` keeps.
 use mathlib.Core.Path.{_≡_}
 use mathlib.Core.Bool.{true, false}
 use Prim.Native.Nat.{ℕ, _<_}

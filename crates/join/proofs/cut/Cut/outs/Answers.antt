@@ -1,3 +1,4 @@
+-- The steps of the proof of `outs` that are not found by search.
 use mathlib.Core.Path.{_≡_, sym, ap, _∙_}
 use mathlib.Core.Logic.{⊎-elim}
 use Prim.Native.Nat.{ℕ}

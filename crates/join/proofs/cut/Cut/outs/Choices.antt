@@ -1,4 +1,4 @@
-use denote.Ref.{now}
+-- What the loop of `outs` keeps.
 use mathlib.Core.Path.{_≡_}
 use Prim.Native.Nat.{_≤_}
 use Rattle.road.specs.Counts.{when, bit, cut, sum}

@@ -1,9 +1,10 @@
-use mathlib.Core.Path.{_≡_, sym, ap, subst, _∙_}
+-- The steps of the proof of `charge` that are not found by search.
+use mathlib.Core.Path.{sym, ap, subst, _∙_}
 use Prim.Native.Nat.{_≤_}
 use native.Mathlib.Omega.{arith}
 use lib.IntN.{pos}
 use mir.Syntax.{w64}
-use mir.Val.{toZ, ofZ, SFits}
+use mir.Val.{SFits}
 use borrow.Author.Needs.{needs}
 use Rattle.std.proofs.shelf.Signed.{toZ-ofZ}
 use Rattle.road.specs.Model.{marked}

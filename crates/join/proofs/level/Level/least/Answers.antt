@@ -1,3 +1,4 @@
+-- The steps of the proof of `least` that are not found by search.
 use native.Mathlib.Omega.{arith}
 use Rattle.join.proofs.StreetSets.{marked-below}
 use Rattle.join.proofs.level.Level.least.Needs as need

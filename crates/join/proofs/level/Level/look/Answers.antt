@@ -1,3 +1,4 @@
+-- The steps of the proof of `look` that are not found by search.
 use mathlib.Core.Path.{_≡_, sym, ap, subst, _∙_}
 use Prim.Native.Nat.{_≤_}
 use native.Mathlib.Omega.{arith}

@@ -1,3 +1,4 @@
+-- The steps of the proof of `look_inside` that are not found by search.
 use mathlib.Core.Path.{sym, ap, ap₂, subst, _∙_}
 use Rattle.road.specs.Model.{marked}
 use Rattle.join.specs.Joins.{_⊞_, single, Zero}

@@ -1,10 +1,10 @@
-use mathlib.Core.Path.{_≡_, ap, _∙_}
+-- The steps of the proof of `slack` that are not found by search.
+use mathlib.Core.Path.{ap}
 use Prim.Native.Nat.{_+_, _-_, _/_}
 use native.Mathlib.Omega.{arith}
-use lib.IntN.{pos}
 use Rattle.std.proofs.shelf.Signed.{ints}
 use Rattle.road.proofs.Models.{size-model}
-use Rattle.join.specs.Weights.{ground, side-of, outer}
+use Rattle.join.specs.Weights.{ground, side-of}
 use Rattle.join.specs.Turns.{lengths-at, potential-at}
 use Rattle.join.proofs.Stages.{room-cut}
 use Rattle.join.proofs.level.Level.slack.Needs as need

@@ -1,3 +1,4 @@
+-- The steps of the proof of `take_turn` that are not found by search.
 use mathlib.Core.Path.{sym, subst}
 use Rattle.road.specs.Model.{marked}
 use Rattle.join.specs.Amounts.{amount}

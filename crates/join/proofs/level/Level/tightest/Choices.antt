@@ -1,3 +1,4 @@
+-- What the loop of `tightest` keeps.
 use Rattle.join.specs.Weights.{ground, side-of}
 use Rattle.join.specs.Potentials.{Tightest}
 use Rattle.join.specs.Turns.{lengths-at, potential-at}

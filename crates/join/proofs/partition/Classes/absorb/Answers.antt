@@ -1,3 +1,4 @@
+-- The steps of the proof of `absorb` that are not found by search.
 use mathlib.Core.Path.{ap, _∙_}
 use Rattle.road.specs.Model.{marked}
 use Rattle.join.specs.Joins.{_⊞_}

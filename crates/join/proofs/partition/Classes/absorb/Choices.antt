@@ -1,3 +1,4 @@
+-- What the loop of `absorb` keeps.
 use Rattle.road.specs.Model.{marked}
 use Rattle.join.specs.Classes.{Absorbed}
 use Rattle.join.proofs.partition.Classes.absorb.Given as given

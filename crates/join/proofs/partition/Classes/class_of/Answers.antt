@@ -1,3 +1,4 @@
+-- The steps of the proof of `class_of` that are not found by search.
 use native.Mathlib.Omega.{arith}
 use Rattle.join.proofs.Uniting.{class-marks}
 use Rattle.join.proofs.partition.Classes.class_of.Needs as need

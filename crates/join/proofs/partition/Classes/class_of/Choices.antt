@@ -1,3 +1,4 @@
+-- What the loop of `class_of` keeps.
 use mathlib.Core.Path.{_≡_}
 use Prim.Native.Nat.{ℕ, _<_}
 use lib.Dec.{eqb}

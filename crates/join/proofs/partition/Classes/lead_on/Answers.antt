@@ -1,3 +1,4 @@
+-- The steps of the proof of `lead_on` that are not found by search.
 use mathlib.Core.Path.{ap, ap₂, _∙_}
 use Rattle.road.specs.Model.{marked}
 use Rattle.join.specs.Joins.{_⊞_, single}

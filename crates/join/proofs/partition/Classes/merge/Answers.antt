@@ -1,3 +1,4 @@
+-- The steps of the proof of `merge` that are not found by search.
 use Rattle.join.specs.Weights.{town-of, lengths-of}
 use Rattle.join.proofs.StreetSets.{ends-below}
 use Rattle.join.proofs.Uniting.{kept-on, merged-more}

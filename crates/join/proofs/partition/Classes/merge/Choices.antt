@@ -1,3 +1,4 @@
+-- What the loop of `merge` keeps.
 use Rattle.join.specs.Weights.{town-of, lengths-of}
 use Rattle.join.specs.Classes.{Classed, Kept, Merged}
 use Rattle.join.proofs.partition.Classes.merge.Given as given

@@ -1,7 +1,7 @@
-use mathlib.Core.Path.{_≡_, refl, sym, ap, ap₂, _∙_}
+-- The steps of the proof of `merge_over` that are not found by search.
+use mathlib.Core.Path.{_≡_, refl, sym, ap, _∙_}
 use native.Mathlib.Omega.{arith}
 use Rattle.std.proofs.shelf.Signed.{ints}
-use Rattle.road.specs.Counts.{one, two}
 use Rattle.road.specs.Model.{marked}
 use Rattle.road.proofs.Models.{size-model}
 use Rattle.join.specs.Joins.{_⊞_, single}

@@ -1,3 +1,4 @@
+-- What the loop of `relax` keeps.
 use Prim.Native.Nat.{_≤_}
 use Rattle.join.specs.Prices.{Priced, all-prices}
 use Rattle.join.proofs.prices.Prices.relax.Given as given

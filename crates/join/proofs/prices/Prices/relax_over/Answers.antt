@@ -1,3 +1,4 @@
+-- The steps of the proof of `relax_over` that are not found by search.
 use mathlib.Core.Path.{_≡_, refl, ap, _∙_}
 use mathlib.Core.Bool.{true, false}
 use Prim.Native.Nat.{_<_, _≤_}
@@ -7,7 +8,6 @@ use mir.Syntax.{w64}
 use mir.Val.{toZ, ofZ}
 use Rattle.std.proofs.shelf.Signed.{ints}
 use Rattle.std.proofs.shelf.Tests.{both-ways}
-use Rattle.road.specs.Model.{marked}
 use Rattle.join.specs.Joins.{_⊞_, single, cost}
 use Rattle.join.specs.Prices.{town-in, costs-in, extra-in, price-in}
 use Rattle.join.proofs.Relaxing.{over-set, over-near}

@@ -1,3 +1,4 @@
+-- What the loop of `sweep` keeps.
 use Rattle.join.specs.Prices.{Priced, Lowered, All-near}
 use Rattle.join.proofs.prices.Prices.sweep.Given as given
 

@@ -1,5 +1,6 @@
+-- The steps of the proof of `cost_flipped` that are not found by search.
 use native.Mathlib.Omega.{arith}
-use Prim.Native.Nat.{_<_, _≤_}
+use Prim.Native.Nat.{_<_}
 use Rattle.std.proofs.shelf.Signed.{ints}
 use Rattle.road.specs.Counts.{size}
 use Rattle.road.specs.Model.{marked}

@@ -1,3 +1,4 @@
+-- What the loop of `long_street` keeps.
 use mathlib.Core.Path.{_≡_}
 use mathlib.Core.Bool.{true}
 use Prim.Native.Nat.{ℕ, _<_}
