@@ -24,3 +24,6 @@ pub mod Looking
 pub mod Starting
 pub mod Charging
 pub mod Growing
+pub mod Lone
+pub mod Closing
+pub mod Exchanging

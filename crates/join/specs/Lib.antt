@@ -12,3 +12,5 @@ pub mod Turns
 pub mod First
 pub mod Written
 pub mod Components
+pub mod Circuits
+pub mod Outcomes

@@ -1,4 +1,7 @@
 // The least extra drives of a town, and the numbers that show that they are least.
+mod carry;
+mod circuit;
+mod close;
 mod component;
 mod cut;
 mod cuts;
@@ -7,6 +10,7 @@ mod grow;
 mod laws;
 mod level;
 mod look;
+mod outcome;
 mod partition;
 mod prices;
 mod problem;
