@@ -1,5 +1,5 @@
 -- What is turned away, by the number and the place of its refusal. Assumes nothing: these are definitions.
-use Rattle.std.specs.Prelude.{ℕ, ◌*◌, ◌/◌, ◌%◌, ◌&&◌, ltb, List, length, Option, Result, ◌==◌, nat_le, nat_lt, slice_index}
+use Rattle.std.specs.Prelude.{ℕ, ◌*◌, ◌/◌, ◌%◌, ◌&&◌, nat_lt, List, length, Option, Result, ◌==◌, nat_le, nat_lt, slice_index}
 use Rattle.road.specs.declared.refusal.Refusal.{Refusal}
 use Rattle.road.specs.declared.refusal.Refusal.TheVariants.{Crossings, Numbers, OutOfRange, Depot, Unreached, Room, NoStreet, Parts}
 use Rattle.road.specs.Roads.{Town, street}
@@ -50,7 +50,7 @@ plan_refusal n xs depot = town_refusal n xs depot then reach_refusal (town_in n 
 
 -- 7: a leg of no street, the first
 abbrev pub legs_refusal : Town → List ℕ → Option (ℕ × ℕ)
-legs_refusal t xs = unless_all (length xs) (λ i. ltb (slice_index xs i) (2 * size t)) (λ i. (7, i))
+legs_refusal t xs = unless_all (length xs) (λ i. nat_lt (slice_index xs i) (2 * size t)) (λ i. (7, i))
 
 -- an answer, or the refusal that is due
 abbrev pub Answers : {A : Type 0} → Option (ℕ × ℕ) → (A → Type 0) → Result A Refusal → Type 0

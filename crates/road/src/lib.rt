@@ -1,4 +1,6 @@
 // Towns, legs and drives: the types, how a town is taken from numbers, and how a drive is checked leg by leg.
+#![tactic(auto)]
+
 mod drive;
 mod fault;
 mod laws;

@@ -8,17 +8,17 @@ use Rattle.road.proofs.Limits.{within_true}
 use Rattle.road.proofs.Numbers.{size_in}
 use Rattle.road.proofs.take.check_streets.Goals as goal
 
-pub returns-then-not-is-within : goal.returns-then-not-is-within
-returns-then-not-is-within c =
+pub returns-then-not-is_within : goal.returns-then-not-is_within
+returns-then-not-is_within c =
     let n = c.args.crossings in
     let t : Town = town_in n c.args.numbers.now in
     let e = size_in n c.args.numbers.now in
     first_broken _ (λ k. within n (street t k)) (λ k. (3, k)) c.loop-k.k (omega arith) c.loop-k.invariant
-    (sym (ap (within n) (c.street_at.ensures n)) ∙ sym c.if-not-is-within.ensures)
+    (sym (ap (within n) (c.street_at.ensures n)) ∙ sym c.if-not-is_within.ensures)
 
 pub loop-k-preserved : goal.loop-k-preserved
 loop-k-preserved c =
-    below_more _ _ c.loop-k.invariant (sym (ap (within c.args.crossings) (c.street_at.ensures c.args.crossings)) ∙ sym c.if-not-is-within.ensures)
+    below_more _ _ c.loop-k.invariant (sym (ap (within c.args.crossings) (c.street_at.ensures c.args.crossings)) ∙ sym c.if-not-is_within.ensures)
 
 pub returns : goal.returns
 returns c =

@@ -11,5 +11,5 @@ use Rattle.road.proofs.town.Town.check_as_round.Goals as goal
 pub returns : goal.returns
 returns c =
     let t = c.args.self.now in
-    subst (λ (o : Option Fault). Finds o (λ _. Unit {0}) c.check-drive.result)
-    (fault_all (model t) t.depot t.depot c.all-marks.result (legs_in c.args.legs.now) (omega (arith, size_model t)) c.all-marks.ensures) c.check-drive.ensures
+    subst (λ (o : Option Fault). Finds o (λ _. Unit {0}) c.check_drive.result)
+    (fault_all (model t) t.depot t.depot c.all_marks.result (legs_in c.args.legs.now) (omega (arith, size_model t)) c.all_marks.ensures) c.check_drive.ensures

@@ -13,13 +13,13 @@ returns-then-not-marks-street c =
     let t = c.args.self.now in
     let e = size_model t in
     first_broken _ (λ k. reached (model t) t.depot (one (model t) k)) (λ k. (5, k)) c.loop-k.k (omega arith) c.loop-k.invariant
-    (ap (λ (s : Street). reached (model t) t.depot s.one) (sym c.street.ensures.is) ∙ sym (c.come-to-marks.ensures _) ∙ c.if-not-marks-street.true)
+    (ap (λ (s : Street). reached (model t) t.depot s.one) (sym c.street.ensures.is) ∙ sym (c.come_to-marks.ensures _) ∙ c.if-not-marks-street.true)
 
 pub loop-k-preserved : goal.loop-k-preserved
 loop-k-preserved c =
     let t = c.args.self.now in
     below_more _ _ c.loop-k.invariant
-    (ap (λ (s : Street). reached (model t) t.depot s.one) (sym c.street.ensures.is) ∙ sym (c.come-to-marks.ensures _) ∙ c.if-not-marks-street.false)
+    (ap (λ (s : Street). reached (model t) t.depot s.one) (sym c.street.ensures.is) ∙ sym (c.come_to-marks.ensures _) ∙ c.if-not-marks-street.false)
 
 pub returns : goal.returns
 returns c =

@@ -10,7 +10,7 @@ use Rattle.road.proofs.town.Town.drive.Goals as goal
 pub loop-i-init : goal.loop-i-init
 loop-i-init c =
     let t = model c.args.self.now in
-    subst (Along t c.args.start c.args.legs.now 0 c.args.start) (sym c.no-marks-marks.ensures) (along_start t c.args.start c.args.legs.now)
+    subst (Along t c.args.start c.args.legs.now 0 c.args.start) (sym c.no_marks-marks.ensures) (along_start t c.args.start c.args.legs.now)
 
 pub returns-then-not-begins : goal.returns-then-not-begins
 returns-then-not-begins c =
@@ -23,7 +23,7 @@ loop-i-preserved c =
     let there = sym {b = begins (model t) c.loop-i.at c.of-leg.result} c.if-not-begins.ensures in
     let low = begins_low (model t) c.loop-i.at c.of-leg.result there in
     let by : c.of-leg.result.by < 300 = omega (arith, size_model t) in
-    subst (λ w. Along (model t) c.args.start c.args.legs.now (c.loop-i.i + 1) w (set c.loop-i.marks c.of-leg.result.by true)) (sym {b = into (model t) c.of-leg.result} c.end-of-at.ensures.is)
+    subst (λ w. Along (model t) c.args.start c.args.legs.now (c.loop-i.i + 1) w (set c.loop-i.marks c.of-leg.result.by true)) (sym {b = into (model t) c.of-leg.result} c.end_of-at.ensures.is)
     (along_more (model t) c.args.start c.args.legs.now c.loop-i.i c.loop-i.at c.loop-i.marks c.loop-i.invariant
     c.of-leg.result c.loop-i-test.true c.of-leg.ensures there by)
 

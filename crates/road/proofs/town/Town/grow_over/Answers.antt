@@ -9,11 +9,11 @@ use Rattle.road.proofs.town.Town.grow_over.Goals as goal
 pub returns : goal.returns
 returns c =
     let t = c.args.self.now in
-    let side = c.outer-end-y.ensures.side in record {
-      grown = grown_more (model t) t.depot c.args.k side.0 c.outer-end-y.result c.args.marks.now c.requires.grown (omega (arith, size_model t))
-          side.1 side.2 c.outer-end-y.ensures.outside c.outer-end-y.ensures.below;
+    let side = c.outer_end-y.ensures.side in record {
+      grown = grown_more (model t) t.depot c.args.k side.0 c.outer_end-y.result c.args.marks.now c.requires.grown (omega (arith, size_model t))
+          side.1 side.2 c.outer_end-y.ensures.outside c.outer_end-y.ensures.below;
       tried = record {
-        less = λ _. unmarked_set c.args.marks.now c.outer-end-y.result c.requires.grown.places c.outer-end-y.ensures.below c.outer-end-y.ensures.outside;
+        less = λ _. unmarked_set c.args.marks.now c.outer_end-y.result c.requires.grown.places c.outer_end-y.ensures.below c.outer_end-y.ensures.outside;
         same = λ e. absurd (both_ways true e refl);
       };
     }
