@@ -1,4 +1,6 @@
 // Sheets: parts of a town with weights, and the checker's word on a round and a sheet.
+#![tactic(auto)]
+
 mod check;
 mod laws;
 mod parts;

@@ -1,5 +1,5 @@
 -- Laws of the least length of drives. Assumes nothing.
-use Rattle.std.proofs.Common.{◌+◌, false, [], ◌∷◌, ◌++◌, refl, ◌∙◌, arith}
+use Rattle.std.proofs.Common.{false, [], ◌∷◌, ◌++◌, refl, ◌∙◌, arith}
 use Rattle.road.specs.declared.Leg.{Leg}
 use Rattle.road.specs.Roads.{stay, go, from, into, far}
 use Rattle.road.proofs.Drives.{drive_append, far_append, turned_round, drive_turned, far_turned}

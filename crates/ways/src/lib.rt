@@ -1,4 +1,6 @@
 // Shortest drives from one crossing to every other.
+#![tactic(auto)]
+
 mod laws;
 mod no_ways;
 mod relax;

@@ -15,7 +15,7 @@ loop-k-init c = sym (par_zero _)
 
 pub loop-k-preserved : goal.loop-k-preserved
 loop-k-preserved c =
-    unequal c.loop-k.odd c.leads-out-odd.result ∙ ap₂ (λ a b. a ⊕ b) c.loop-k.invariant c.leads-out-odd.ensures ∙ sym (par_more c.loop-k.k _)
+    unequal c.loop-k.odd c.leads_out-odd.result ∙ ap₂ (λ a b. a ⊕ b) c.loop-k.invariant c.leads_out-odd.ensures ∙ sym (par_more c.loop-k.k _)
 
 pub returns : goal.returns
 returns c =

@@ -9,5 +9,5 @@ use Rattle.sheet.proofs.parts.Parts.leads_out.Goals as goal
 pub returns : goal.returns
 returns c =
     let p = c.args.self.now in
-    leads_is (get_or (parts_of p) c.args.i no_part).marks c.street-street.result (street (town_of p) c.args.k) c.is-marked.result c.is-marked-2.result
-    c.is-marked.ensures c.is-marked-2.ensures c.street-street.ensures.is
+    leads_is (get_or (parts_of p) c.args.i no_part).marks c.street-street.result (street (town_of p) c.args.k) c.is_marked.result c.is_marked-2.result
+    c.is_marked.ensures c.is_marked-2.ensures c.street-street.ensures.is

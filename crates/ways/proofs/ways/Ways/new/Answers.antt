@@ -9,7 +9,7 @@ use Rattle.ways.proofs.ways.Ways.new.Goals as goal
 pub returns : goal.returns
 returns c =
     let t = c.args.town.now in
-    let made = c.in-ok-ways.ensures in
-    let done = c.in-ok-relax.ensures in
+    let made = c.in_ok-ways.ensures in
+    let done = c.in_ok-relax.ensures in
     let ws = c.relax.new.self in
     (c.if-start-town.false, all_shown (model t) ws c.args.start (omega (arith, done.0, made.0)) done.1 (subst (λ n. Closed (model t) ws n) (sym (size_model t)) done.2))
