@@ -2,7 +2,7 @@
 use Rattle.std.proofs.Common.{◌≡◌, ℕ, ◌+◌, ◌%◌, ◌<◌, ◌≤◌, Bool, true, false, [], sym, refl, ap, ◌∙◌, subst, arith}
 use Rattle.std.proofs.lemmas.Bool.{both_ways}
 use Rattle.road.specs.Roads as roads
-use Rattle.road.specs.Counts.{bit, odd, size, one, Set, Side, forth, back}
+use Rattle.road.specs.Counts.{bit, odd, size, Set, Side, forth, back}
 use Rattle.road.proofs.Models.{size_model}
 use Rattle.road.proofs.Parity.{odd_mod}
 use Rattle.join.specs.declared.level.Level.{Level}

@@ -1,7 +1,6 @@
 -- Where no potential is left, the stages of a pass show that all prices are least. Assumes nothing.
-use Rattle.std.proofs.Common.{◌≡◌, ℕ, zero, suc, ◌+◌, ◌-◌, ◌<◌, ◌≤◌, Bool, true, false, not, ◌&&◌, List, length, get_or, sym, refl, ap, arith}
+use Rattle.std.proofs.Common.{◌≡◌, ℕ, zero, suc, ◌+◌, ◌<◌, ◌≤◌, Bool, true, false, not, ◌&&◌, List, length, get_or, sym, refl, ap, arith}
 use Rattle.std.proofs.lemmas.Bool.{both_ways, not-true}
-use Rattle.road.specs.Roads as roads
 use Rattle.road.specs.Counts.{◌⊕◌, when, sum, size, cut}
 use Rattle.road.specs.Model.{marked}
 use Rattle.join.specs.declared.level.Level.{Level}

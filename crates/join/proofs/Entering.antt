@@ -13,7 +13,7 @@ use Rattle.road.proofs.Models.{size_model, street_model, street_past}
 use Rattle.road.proofs.Parity.{xor_same}
 use Rattle.road.proofs.Reached.{drive_closed, reached_closed, reached_way, drive_reached}
 use Rattle.ways.specs.declared.way.Way.{Way}
-use Rattle.ways.specs.Shown.{to, Shows}
+use Rattle.ways.specs.Shown.{Shows}
 use Rattle.join.specs.declared.prices.Prices.{Prices}
 use Rattle.join.specs.declared.problem.Problem.{Problem}
 use Rattle.join.specs.declared.turn.Stage.{Stage}

@@ -2,7 +2,7 @@
 use Rattle.std.proofs.Common.{◌≡◌, ℕ, ◌*◌, ◌%◌, ◌<◌, ◌≤◌, Bool, true, false, ◌⊎◌, refl, ap, ◌∙◌, inl, inr, ⊎_elim, arith}
 use Rattle.std.proofs.lemmas.Bool.{both_ways, cases_lt}
 use Rattle.road.specs.Roads.{Town, street, Sound}
-use Rattle.road.specs.Counts.{◌⊕◌, bit, odd, size, one, two, Set, ends, degree, Side, forth, back, all}
+use Rattle.road.specs.Counts.{◌⊕◌, bit, odd, size, one, two, Set, degree, Side, forth, back, all}
 use Rattle.road.proofs.Parity.{xor_self, xor_twice, odd_add, odd_bit, odd_double, odd_mod}
 use Rattle.join.specs.Joins.{◌⊞◌, single, out, Joins, once, cost, Least}
 use Rattle.join.specs.Extra.{Inside, counts, extra_length, ExtraDrives}

@@ -1,4 +1,6 @@
 // The least extra drives of a town, and the numbers that show that they are least.
+#![tactic(auto)]
+
 mod alone;
 mod carry;
 mod circuit;

@@ -12,14 +12,14 @@ use Rattle.join.proofs.entry.double_lengths.Goals as goal
 
 pub loop-k-init : goal.loop-k-init
 loop-k-init c =
-    let e = c.no-costs-costs.ensures in
+    let e = c.no_costs-costs.ensures in
     (ap length e ∙ length-replicate 300 (pos 0), subst (λ zs. Upto zs (double (model c.args.town.now)) (λ _. 0) 0) (sym e) (upto_none 300 (double (model c.args.town.now))))
 
 pub loop-k-preserved : goal.loop-k-preserved
 loop-k-preserved c =
     let t = model c.args.town.now in
     let k = c.loop-k.k in
-    let z : to_z w64 (of_z w64 c.double-length.result) ≡ pos (double t k) = omega (arith, ints, c.double-length.ensures, double_most c.args.town.now k) in
+    let z : to_z w64 (of_z w64 c.double_length.result) ≡ pos (double t k) = omega (arith, ints, c.double_length.ensures, double_most c.args.town.now k) in
     (length-set c.loop-k.costs k _ ∙ c.loop-k.invariant.0, upto_more c.loop-k.costs (double t) (λ _. 0) k _ (omega (arith, c.loop-k.invariant.0)) z c.loop-k.invariant.1)
 
 pub returns : goal.returns

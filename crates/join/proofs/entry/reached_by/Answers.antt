@@ -6,14 +6,14 @@ use Rattle.join.proofs.Entering.{Looked, way_come, some_lent, looked_none, looke
 use Rattle.join.proofs.entry.reached_by.Goals as goal
 
 pub loop-u-init : goal.loop-u-init
-loop-u-init c = looked_none c.args.town.now c.no-crossings-reached.result c.no-crossings-reached.ensures
+loop-u-init c = looked_none c.args.town.now c.no_crossings-reached.result c.no_crossings-reached.ensures
 
 pub loop-u-preserved : goal.loop-u-preserved
 loop-u-preserved c =
     let t = c.args.town.now in
     let u = c.loop-u.u in
-    looked_more t c.loop-u.reached u c.is-some.result (omega (arith, t.most)) c.loop-u.invariant
-    (c.is-some.ensures ∙ sym (some_lent (λ x. x.now) c.way-to.result) ∙ ap is_some c.way-to.ensures
+    looked_more t c.loop-u.reached u c.is_some.result (omega (arith, t.most)) c.loop-u.invariant
+    (c.is_some.ensures ∙ sym (some_lent (λ x. x.now) c.way_to.result) ∙ ap is_some c.way_to.ensures
     ∙ way_come (model t) t.depot u (to c.args.ways.now u) (c.requires.ways u (omega arith)))
 
 pub returns : goal.returns

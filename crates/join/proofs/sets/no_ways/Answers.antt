@@ -10,5 +10,5 @@ loop-init c = subst (λ rows. AllEmpty rows 0) (sym c.new-rows.ensures.items) em
 
 pub loop-preserved : goal.loop-preserved
 loop-preserved c =
-    let e = ap marked c.no-streets.ensures ∙ marked_none 300 in
-    subst (λ rows. AllEmpty rows (c.loop.counter + 1)) (sym c.in-ok-push.ensures.items) (empty_more (vec_items c.loop.rows) c.no-streets.result c.loop.counter e c.loop.invariant)
+    let e = ap marked c.no_streets.ensures ∙ marked_none 300 in
+    subst (λ rows. AllEmpty rows (c.loop.counter + 1)) (sym c.in_ok-push.ensures.items) (empty_more (vec_items c.loop.rows) c.no_streets.result c.loop.counter e c.loop.invariant)

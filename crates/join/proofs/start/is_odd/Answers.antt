@@ -13,7 +13,7 @@ loop-k-init c = sym (par_zero _)
 
 pub loop-k-preserved : goal.loop-k-preserved
 loop-k-preserved c =
-    unequal c.loop-k.odd c.has-one-end-odd.result ∙ ap₂ (λ a b. a ⊕ b) c.loop-k.invariant c.has-one-end-odd.ensures ∙ sym (par_more c.loop-k.k _)
+    unequal c.loop-k.odd c.has_one_end-odd.result ∙ ap₂ (λ a b. a ⊕ b) c.loop-k.invariant c.has_one_end-odd.ensures ∙ sym (par_more c.loop-k.k _)
 
 pub returns : goal.returns
 unfolding out

@@ -10,4 +10,4 @@ returns c =
     let t = c.args.town.now in
     let A = marked c.args.required.now in
     let K = marked c.loop-v.left in
-    subst (Joins (model t) (once (model t) A t.depot) t.depot) (sym c.xor.ensures) (pairs_join (model t) A K t.depot (all_even (model t) K (inside_model t) c.in-default.ensures))
+    subst (Joins (model t) (once (model t) A t.depot) t.depot) (sym c.xor.ensures) (pairs_join (model t) A K t.depot (all_even (model t) K (inside_model t) c.in_default.ensures))

@@ -15,18 +15,18 @@ returns c =
     let A = marked c.args.allowed.now in
     let s = c.args.self.now in
     let k = c.args.k in
-    let x = c.inner-end-x.result in
-    let y = c.outer-end-y.result in
+    let x = c.inner_end-x.result in
+    let y = c.outer_end-y.result in
     let h : k < size t = omega (arith, size_model c.args.town.now, c.requires.below) in
     let own = c.if-not-allowed-k.false in
     let cuts = sym c.has.ensures ∙ c.if-not-has.false in
-    let ex = c.inner-end-x.ensures.is in
-    let ey = c.outer-end-y.ensures.is in
+    let ex = c.inner_end-x.ensures.is in
+    let ey = c.outer_end-y.ensures.is in
     record {
-      grown = grown_more t A s c.requires.grown k h own cuts x y ex ey c.outer-end-y.ensures.below c.flip.result (c.flip.ensures ∙ ap (λ J. J ⊞ single k) c.path-to.ensures);
+      grown = grown_more t A s c.requires.grown k h own cuts x y ex ey c.outer_end-y.ensures.below c.flip.result (c.flip.ensures ∙ ap (λ J. J ⊞ single k) c.path_to.ensures);
       from = refl;
       tried = record {
-        less = λ _. unmarked_set s.marks y c.requires.grown.places c.outer-end-y.ensures.below (out_y t A s c.requires.grown k h own cuts x y ex ey);
+        less = λ _. unmarked_set s.marks y c.requires.grown.places c.outer_end-y.ensures.below (out_y t A s c.requires.grown k h own cuts x y ex ey);
         same = λ e. absurd (both_ways true e refl);
       };
     }

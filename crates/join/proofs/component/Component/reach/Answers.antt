@@ -6,7 +6,7 @@ use Rattle.join.proofs.component.Component.reach.Goals as goal
 
 pub loop-init : goal.loop-init
 loop-init c = (
-  grown_start (model c.args.town.now) (marked c.args.allowed.now) c.args.self.now c.only-self.result c.no-streets.result c.args.from c.requires.rows c.requires.below
-      c.only-self.ensures c.no-streets.ensures,
+  grown_start (model c.args.town.now) (marked c.args.allowed.now) c.args.self.now c.only-self.result c.no_streets.result c.args.from c.requires.rows c.requires.below
+      c.only-self.ensures c.no_streets.ensures,
   refl,
 )

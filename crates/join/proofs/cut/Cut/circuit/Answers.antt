@@ -6,7 +6,7 @@ use Rattle.road.specs.Model.{marked}
 use Rattle.join.specs.Weights.{ground, side_of}
 use Rattle.join.specs.Circuits.{Lone}
 use Rattle.join.proofs.cut.Cut.circuit.Goals as goal
-use Rattle.join.proofs.cut.Cut.circuit.Goals.{then-drives-k+then-cut+in-default, else-drives-k}
+use Rattle.join.proofs.cut.Cut.circuit.Goals.{then-drives-k+then-cut+in_default, else-drives-k}
 
 pub loop-k-preserved : goal.loop-k-preserved
 loop-k-preserved c =
@@ -17,8 +17,8 @@ loop-k-preserved c =
     let i = c.loop-k.invariant in
     let P : ℕ → Type 0 = λ k. J k ≡ true → cut t Z k ≡ true → (Y : Set) × Lone t Z J (marked c.args.base.now) k Y in
     elim c.if-drives-k.branch [
-      | then-drives-k+then-cut+in-default w ↦
-          let r = w.in-default.ensures in
+      | then-drives-k+then-cut+in_default w ↦
+          let r = w.in_default.ensures in
           (ap (λ d. length (vec_items d.path)) w.component-is ∙ r.rows, below_more P k i.1 (λ _ _. r.is))
       | else-drives-k w ↦ (
         ap (λ d. length (vec_items d.path)) w.component-is ∙ i.0,

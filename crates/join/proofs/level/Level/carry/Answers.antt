@@ -61,8 +61,8 @@ returns c =
     let J = marked c.loop-circuit.drives in
     let u = c.args.found.now.crossing in
     let o = c.loop-circuit.invariant.2 in
-    let r = c.in-default.ensures in
-    let lone : AllLone (town_in p) Z J (marked c.extra-for-base.result.now) (size (town_in p)) = λ k h. r.is k (omega (arith, size_model p.town.now)) in
+    let r = c.in_default.ensures in
+    let lone : AllLone (town_in p) Z J (marked c.extra_for-base.result.now) (size (town_in p)) = λ k h. r.is k (omega (arith, size_model p.town.now)) in
     let few = lone_few (town_in p) (start_in p) (lengths_at v) (potential_at v) s.base Z (amount s.charge) (extra_in c.args.prices.now s.base) c.requires.held.stage
-    c.requires.held.base u J o.joins (subst (λ B. AllLone (town_in p) Z J B (size (town_in p))) c.extra-for-base.ensures lone) in
+    c.requires.held.base u J o.joins (subst (λ B. AllLone (town_in p) Z J B (size (town_in p))) c.extra_for-base.ensures lone) in
     record { rows = r.rows; cheaper = over_cheaper (town_in p) (start_in p) (reached_in p) (lengths_at v) (potential_at v) Z (amount s.charge) u J o few }

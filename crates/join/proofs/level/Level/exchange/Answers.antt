@@ -18,9 +18,9 @@ returns-then-cost-self c v hJ =
     let way = way_in c.args.classes.now in
     let f = c.args.circuit.now in
     let C = marked c.around-round.result in
-    let O = c.lead-on-out.ensures ∙ ap (λ J. (J ⊞ (way b ⊞ way f.out.inner)) ⊞ single f.out.street) (c.xor-turned.ensures ∙ ap (λ J. J ⊞ C) c.extra-for.ensures) in (
+    let O = c.lead_on-out.ensures ∙ ap (λ J. (J ⊞ (way b ⊞ way f.out.inner)) ⊞ single f.out.street) (c.xor-turned.ensures ∙ ap (λ J. J ⊞ C) c.extra_for.ensures) in (
       exchange_lower (town_in p) (start_in p) (lengths_at c.args.self.now) (potential_at c.args.self.now) b (marked s.marks) (amount s.charge) (extra_in c.args.prices.now b)
-          c.requires.held.stage v (marked c.args.drives.now) hJ way c.requires.held.inside f c.requires.closes C (marked c.lead-on-out.result) c.around-round.ensures O,
+          c.requires.held.stage v (marked c.args.drives.now) hJ way c.requires.held.inside f c.requires.closes C (marked c.lead_on-out.result) c.around-round.ensures O,
       omega (arith, ints, c.cost.ensures.is, c.if-cost-self.true, c.requires.held.filled.whole_potential f.out.outer),
     )
 
@@ -32,7 +32,7 @@ returns-else-cost-self c v hJ =
     let way = way_in c.args.classes.now in
     let f = c.args.circuit.now in
     let C = marked c.around-round.result in
-    let O = c.lead-on-out.ensures ∙ ap (λ J. (J ⊞ (way b ⊞ way f.out.inner)) ⊞ single f.out.street) (c.xor-turned.ensures ∙ ap (λ J. J ⊞ C) c.extra-for.ensures) in
+    let O = c.lead_on-out.ensures ∙ ap (λ J. (J ⊞ (way b ⊞ way f.out.inner)) ⊞ single f.out.street) (c.xor-turned.ensures ∙ ap (λ J. J ⊞ C) c.extra_for.ensures) in
     exchange_fewer (town_in p) (start_in p) (lengths_at c.args.self.now) (potential_at c.args.self.now) b (marked s.marks) (amount s.charge) (extra_in c.args.prices.now b)
-    c.requires.held.stage v (marked c.args.drives.now) hJ way c.requires.held.inside f c.requires.closes C (marked c.lead-on-out.result) c.around-round.ensures O
+    c.requires.held.stage v (marked c.args.drives.now) hJ way c.requires.held.inside f c.requires.closes C (marked c.lead_on-out.result) c.around-round.ensures O
     (omega (arith, ints, c.cost.ensures.is, c.if-cost-self.false, c.requires.held.filled.whole_potential f.out.outer)) (marked c.xor.result) c.xor.ensures

@@ -16,14 +16,14 @@ use Rattle.join.proofs.level.Level.look.Goals as goal
 pub returns-in-Some : goal.returns-in-Some
 returns-in-Some c =
     let b = c.least-b.result in
-    let e = c.extra-for-drives.ensures in
+    let e = c.extra_for-drives.ensures in
     let w = way_in c.args.classes.now in
     let d = c.in-Some.ensures in
     let k = c.in-Some.k in
     let better = look_better c.args.problem.now c.args.prices.now c.args.self.now c.args.classes.now b c.requires.pass c.requires.classed c.requires.merged
-    c.least-b.ensures.lowest c.least-b.ensures.below (marked c.class-of-marks.result) c.class-of-marks.ensures
-    k c.inner-end-x.result c.outer-end-y.result (d.0, sym (ap (λ f. f k) e) ∙ d.1, d.2) c.inner-end-x.ensures.is c.outer-end-y.ensures.is
-    (marked c.lead-on.result) (c.lead-on.ensures ∙ ap (λ J. (J ⊞ (w b ⊞ w c.inner-end-x.result)) ⊞ single k) e) in
+    c.least-b.ensures.lowest c.least-b.ensures.below (marked c.class_of-marks.result) c.class_of-marks.ensures
+    k c.inner_end-x.result c.outer_end-y.result (d.0, sym (ap (λ f. f k) e) ∙ d.1, d.2) c.inner_end-x.ensures.is c.outer_end-y.ensures.is
+    (marked c.lead_on.result) (c.lead_on.ensures ∙ ap (λ J. (J ⊞ (w b ⊞ w c.inner_end-x.result)) ⊞ single k) e) in
     record { finds = better; named = tt }
 
 pub tightest-tight-requires : goal.tightest-tight-requires
@@ -32,7 +32,7 @@ tightest-tight-requires c =
     record {
       filled = (c.requires.pass.filled, c.least-b.ensures.below);
       room = look_room c.args.problem.now c.args.prices.now c.args.self.now c.args.classes.now c.least-b.result c.requires.pass c.requires.classed c.requires.merged
-          c.least-b.ensures.lowest c.least-b.ensures.below (marked c.class-of-marks.result) c.class-of-marks.ensures;
+          c.least-b.ensures.lowest c.least-b.ensures.below (marked c.class_of-marks.result) c.class_of-marks.ensures;
       below = d.0;
       cuts = d.2;
     }
@@ -43,25 +43,25 @@ slack-charge-requires c =
     record {
       filled = (c.requires.pass.filled, c.least-b.ensures.below);
       room = look_room c.args.problem.now c.args.prices.now c.args.self.now c.args.classes.now c.least-b.result c.requires.pass c.requires.classed c.requires.merged
-          c.least-b.ensures.lowest c.least-b.ensures.below (marked c.class-of-marks.result) c.class-of-marks.ensures;
+          c.least-b.ensures.lowest c.least-b.ensures.below (marked c.class_of-marks.result) c.class_of-marks.ensures;
       below = omega (arith, d.below, size_model c.args.problem.now.town.now);
       cuts = d.cuts;
     }
 
-pub look-inside-requires : goal.look-inside-requires
-look-inside-requires c =
+pub look_inside-requires : goal.look_inside-requires
+look_inside-requires c =
     let p = c.args.problem.now in
     let v = c.args.self.now in
     let b = c.least-b.result in
-    let same = ap (cost (town_in p) (lengths_at v)) c.extra-for-drives.ensures in
+    let same = ap (cost (town_in p) (lengths_at v)) c.extra_for-drives.ensures in
     record {
       pass = c.requires.pass;
       classed = (c.requires.classed, c.requires.merged);
       lowest = (c.least-b.ensures.lowest, c.least-b.ensures.below);
       high = omega (arith, ints, c.cost.ensures.is, c.if-cost-self.false, c.requires.pass.filled.whole_potential b, same);
       none = λ k h.
-          sym (ap (λ Z. cut (town_in p) Z k) c.class-of-marks.ensures)
-          ∙ none_cut (marked c.all_streets.result k) (cut (town_in p) (marked c.class-of-marks.result) k)
+          sym (ap (λ Z. cut (town_in p) Z k) c.class_of-marks.ensures)
+          ∙ none_cut (marked c.all_streets.result k) (cut (town_in p) (marked c.class_of-marks.result) k)
           (c.all_streets.ensures k (omega (arith, size_model p.town.now, p.town.now.few))) (c.in-None.ensures k h);
     }
 
@@ -71,13 +71,13 @@ returns-in-Some-exit c =
     let q = c.args.prices.now in
     let v = c.args.self.now in
     let b = c.least-b.result in
-    let Z = marked c.class-of-marks.result in
+    let Z = marked c.class_of-marks.result in
     let k = c.tightest-tight.result in
-    let e = c.extra-for-drives.ensures in
+    let e = c.extra_for-drives.ensures in
     let same = ap (cost (town_in p) (lengths_at v)) e in
     let high : potential_at v b ≤ cost (town_in p) (lengths_at v) (extra_in q b) = omega (arith, ints, c.cost.ensures.is, c.if-cost-self.false, c.requires.pass.filled.whole_potential b, same) in
     let z : to_z w64 (of_z w64 c.slack-charge.result) ≡ pos (slack (town_in p) (lengths_at v) (potential_at v) b Z k) = omega (arith, ints, c.slack-charge.ensures.is) in
-    let r = look_charge p q v c.args.classes.now b c.requires.pass c.requires.classed c.requires.merged c.least-b.ensures.lowest c.least-b.ensures.below Z c.class-of-marks.ensures
-    k high (λ j h u. sym (ap (λ f. f j) e) ∙ c.in-default.ensures j h u) c.tightest-tight.ensures c.slack-charge.ensures.some in
+    let r = look_charge p q v c.args.classes.now b c.requires.pass c.requires.classed c.requires.merged c.least-b.ensures.lowest c.least-b.ensures.below Z c.class_of-marks.ensures
+    k high (λ j h u. sym (ap (λ f. f j) e) ∙ c.in_default.ensures j h u) c.tightest-tight.ensures c.slack-charge.ensures.some in
     let charged = subst (λ n. Charged (town_in p) (start_in p) (reached_in p) (lengths_at v) (potential_at v) (extra_in q) Z n b) (sym (ap amount z)) r in
-    record { finds = (charged, z ∙ ap pos (sym (ap amount z)), c.least-b.ensures.below); named = c.class-of-marks.ensures }
+    record { finds = (charged, z ∙ ap pos (sym (ap amount z)), c.least-b.ensures.below); named = c.class_of-marks.ensures }

@@ -11,19 +11,19 @@ use Rattle.join.proofs.level.Level.look_inside.Goals as goal
 pub returns-in-Some : goal.returns-in-Some
 returns-in-Some c =
     let d = c.in-Some.ensures in
-    let e = c.extra-for-drives.ensures in
+    let e = c.extra_for-drives.ensures in
     let w = way_in c.args.classes.now in
     let k = c.in-Some.k in
     let better = inside_better c.args.problem.now c.args.prices.now c.args.self.now c.args.classes.now c.args.b c.requires.pass c.requires.classed.0 c.requires.classed.1
     c.requires.lowest.0 c.requires.lowest.1 c.requires.none k c.end-x.result c.end-y.result d.0 (sym (ap (λ f. f k) e) ∙ d.1) d.2 c.end-x.ensures.is c.end-y.ensures.is
-    (marked c.lead-on-there.result) (marked c.xor-home.result) (marked c.xor.result)
-    (c.lead-on-there.ensures ∙ ap (λ J. (J ⊞ (w c.args.b ⊞ w c.end-x.result)) ⊞ single k) e)
-    (c.xor-home.ensures ∙ ap₂ (λ J Q. J ⊞ Q) c.way-to.ensures c.way-to-in-Some.ensures) c.xor.ensures in
+    (marked c.lead_on-there.result) (marked c.xor-home.result) (marked c.xor.result)
+    (c.lead_on-there.ensures ∙ ap (λ J. (J ⊞ (w c.args.b ⊞ w c.end-x.result)) ⊞ single k) e)
+    (c.xor-home.ensures ∙ ap₂ (λ J Q. J ⊞ Q) c.way_to.ensures c.way_to-in-Some.ensures) c.xor.ensures in
     record { finds = better; named = tt }
 
 pub returns-in-None : goal.returns-in-None
 returns-in-None c =
     let done = inside_done c.args.problem.now c.args.prices.now c.args.self.now c.args.classes.now c.args.b c.requires.pass c.requires.classed.0 c.requires.classed.1
     c.requires.lowest.0 c.requires.lowest.1 c.requires.high c.requires.none
-    (subst (Zero (town_in c.args.problem.now) (lengths_at c.args.self.now)) c.extra-for-drives.ensures c.in-None.ensures) in
+    (subst (Zero (town_in c.args.problem.now) (lengths_at c.args.self.now)) c.extra_for-drives.ensures c.in-None.ensures) in
     record { finds = done; named = tt }

@@ -20,16 +20,16 @@ returns c =
     let O = λ (u : ℕ). reached_in p u && not (Z u) in
     let l = lengths_at c.args.self.now in
     let g = potential_at c.args.self.now in
-    let el = c.shift-streets.ensures.is ∙ ap (λ b. shifted S b l) z in
-    let eg = c.shift-crossings.ensures.is ∙ ap (λ b. shifted O b g) z in
+    let el = c.shift_streets.ensures.is ∙ ap (λ b. shifted S b l) z in
+    let eg = c.shift_crossings.ensures.is ∙ ap (λ b. shifted O b g) z in
     record {
       filled = record {
         streets = search rules;
         places = search rules;
-        whole = c.shift-streets.ensures.whole;
+        whole = c.shift_streets.ensures.whole;
         most = λ k. subst (λ n. n ≤ 4000000000) (sym (ap (λ f. f k) el))
             (shifted_most S by l 4000000000 c.requires.filled.most (λ k u. c.requires.streets k (cut_below p.town.now Z 0 k u) u) k);
-        whole_potential = c.shift-crossings.ensures.whole;
+        whole_potential = c.shift_crossings.ensures.whole;
         high = λ u. subst (λ n. n ≤ 1200000000000) (sym (ap (λ f. f u) eg)) (shifted_most O by g 1200000000000 c.requires.filled.high c.requires.crossings u);
       };
       streets = el;

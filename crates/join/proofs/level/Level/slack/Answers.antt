@@ -16,9 +16,9 @@ returns c =
     let l = lengths_at c.args.self.now in
     let b = c.args.b in
     let k = c.args.k in
-    let y = c.outer-end-y.result in
+    let y = c.outer_end-y.result in
     let r = room_cut t l g b Z 1 c.requires.room k (omega (arith, size_model c.args.cut.now.town.now, c.requires.below)) c.requires.cuts in
-    let same = ap g c.outer-end-y.ensures.is in
+    let same = ap g c.outer_end-y.ensures.is in
     let e = c.half.ensures (g y + l k - g b) (omega (arith, ints, f.whole_potential y, f.whole k, f.whole_potential b, f.high y, f.most k, f.high b, r, same)) in
-    let s = ap (λ u. (g u + l k - g b) / 2) c.outer-end-y.ensures.is in
+    let s = ap (λ u. (g u + l k - g b) / 2) c.outer_end-y.ensures.is in
     record { is = omega (arith, ints, e, s, f.high y, f.most k); some = omega (arith, r) }

@@ -12,7 +12,7 @@ loop-v-preserved c =
     elim c.if-self-v.branch [
       | then-self-v w ↦
           rw w.self-is (absorbed_more c.args.from c.args.to link c.args.self.now c.loop-v.self c.loop-v.v c.loop-v.invariant w.xor.result
-          c.loop-v-test.true w.if-self-v.true (w.xor.ensures ∙ ap (λ J. link ⊞ J) w.way-to.ensures))
+          c.loop-v-test.true w.if-self-v.true (w.xor.ensures ∙ ap (λ J. link ⊞ J) w.way_to.ensures))
       | else-self-v w ↦
           rw w.self-is (absorbed_past c.args.from c.args.to link c.args.self.now c.loop-v.self c.loop-v.v c.loop-v.invariant w.if-self-v.false)
     ]

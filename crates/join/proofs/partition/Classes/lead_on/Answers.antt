@@ -6,5 +6,5 @@ use Rattle.join.proofs.partition.Classes.lead_on.Goals as goal
 
 pub returns : goal.returns
 returns c =
-    let inside = c.xor-inside.ensures ∙ ap₂ (λ J Q. J ⊞ Q) c.way-to.ensures c.way-to-2.ensures in
+    let inside = c.xor-inside.ensures ∙ ap₂ (λ J Q. J ⊞ Q) c.way_to.ensures c.way_to-2.ensures in
     c.flip.ensures ∙ ap (λ J. J ⊞ single c.args.k) (c.xor.ensures ∙ ap (λ J. marked c.args.drives.now ⊞ J) inside)

@@ -23,9 +23,9 @@ returns c =
     let d = c.absorb.new.self in
     let hx = c.end-x.ensures.below in
     let hy = c.end-y.ensures.below in
-    let z : lengths_of w k ≡ 0 = eqb-true (lengths_of w k) 0 (sym c.is-free.ensures ∙ c.if-not-is-free.false) in
+    let z : lengths_of w k ≡ 0 = eqb-true (lengths_of w k) 0 (sym c.is_free.ensures ∙ c.if-not-is_free.false) in
     let r = link_is (town_of w) (lengths_of w) q k x y (marked c.flip-there.result) link c.requires.classed (omega (arith, size_model w.town.now, c.requires.below)) z c.end-x.ensures.is c.end-y.ensures.is hx hy
-    (c.flip-there.ensures ∙ ap (λ J. J ⊞ single k) c.way-to.ensures) (c.xor-link.ensures ∙ ap (λ J. marked c.flip-there.result ⊞ J) c.way-to-2.ensures) in
+    (c.flip-there.ensures ∙ ap (λ J. J ⊞ single k) c.way_to.ensures) (c.xor-link.ensures ∙ ap (λ J. marked c.flip-there.result ⊞ J) c.way_to-2.ensures) in
     let apart : label_in q x ≡ label_in q y → ⊥ = λ e. c.if-from-to.false (sym e) in
     let labels = merge_labels 100 (label_in q) (label_in d) c.requires.classed.labels x y hx hy apart c.absorb.ensures.labels in
     record {

@@ -10,8 +10,8 @@ use Rattle.join.proofs.prices.Prices.add.Goals as goal
 pub returns : goal.returns
 returns c =
     let p = c.args.problem.now in
-    let J = c.set-for-drives.result in
+    let J = c.set_for-drives.result in
     let z = to_z w64 (of_z w64 c.cost-cost.result) in
     let f = c.cost-cost.ensures.is in
     let e : z ≡ pos (cost (town_in p) (costs_in p) (marked J)) = omega (arith, ints, f) in
-    begun_more p c.args.self.now _ c.args.u c.requires.begun.0 c.requires.begun.1 J z c.in-ok-push.ensures.items refl e c.set-for-drives.ensures
+    begun_more p c.args.self.now _ c.args.u c.requires.begun.0 c.requires.begun.1 J z c.in_ok-push.ensures.items refl e c.set_for-drives.ensures

@@ -3,4 +3,4 @@ use Rattle.join.proofs.Starting.{begun_none}
 use Rattle.join.proofs.prices.Prices.first.Goals as goal
 
 pub loop-u-init : goal.loop-u-init
-loop-u-init c = begun_none c.args.problem.now _ c.new.ensures.items c.no-prices.ensures
+loop-u-init c = begun_none c.args.problem.now _ c.new.ensures.items c.no_prices.ensures

@@ -8,12 +8,12 @@ use Rattle.join.proofs.StreetSets.{marked_below}
 use Rattle.join.proofs.Relaxing.{priced_set, prices_set}
 use Rattle.join.proofs.prices.Prices.improve.Goals as goal
 
-pub index-mut-requires : goal.index-mut-requires
-index-mut-requires c =
+pub index_mut-requires : goal.index_mut-requires
+index_mut-requires c =
     omega (arith, marked_below c.args.problem.now.reached.now c.args.found.crossing c.requires.cheaper.met, c.args.problem.now.places, c.requires.priced.rows, c.args.self.now.extra.ok.0)
 
-pub offset-bounds-self-found : goal.offset-bounds-self-found
-offset-bounds-self-found c = omega (arith, marked_below c.args.problem.now.reached.now c.args.found.crossing c.requires.cheaper.met, c.args.problem.now.places)
+pub offset_bounds-self-found : goal.offset_bounds-self-found
+offset_bounds-self-found c = omega (arith, marked_below c.args.problem.now.reached.now c.args.found.crossing c.requires.cheaper.met, c.args.problem.now.places)
 
 pub bounds-self-found : goal.bounds-self-found
 bounds-self-found c = omega (arith, marked_below c.args.problem.now.reached.now c.args.found.crossing c.requires.cheaper.met, c.args.problem.now.places)

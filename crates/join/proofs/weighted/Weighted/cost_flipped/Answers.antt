@@ -9,8 +9,8 @@ use Rattle.join.proofs.Cost.{cost_drop, cost_more}
 use Rattle.join.proofs.StreetSets.{cost_bound}
 use Rattle.join.proofs.weighted.Weighted.cost_flipped.Goals as goal
 
-pub overflow-add-result : goal.overflow-add-result
-overflow-add-result c =
+pub overflow_add-result : goal.overflow_add-result
+overflow_add-result c =
     let w = c.args.self.now in
     omega (arith, ints, c.requires.before, c.length-length.ensures.is, c.length-length.ensures.most, cost_bound w.town.now (lengths_of w) (marked c.args.drives.now) w.most)
 
