@@ -1,4 +1,6 @@
 // The odd crossings of a town in pairs, each with a way over streets of the least extra drives.
+#![tactic(auto)]
+
 mod laws;
 mod pair;
 mod pairing;

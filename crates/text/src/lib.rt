@@ -1,4 +1,6 @@
 // Towns, rounds and sheets read from text, and the words for what is wrong with them.
+#![tactic(auto)]
+
 mod error;
 mod input;
 mod line_fault;

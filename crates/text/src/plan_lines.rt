@@ -7,10 +7,9 @@ ghost use Rattle.sheet.specs.Sheet.{no_part};
 ghost use Rattle.text.specs.Plans.{leg_text, round_line, length_line, mark_text, marks_text, part_in, part_line, planned_text};
 
 use std::alloc::{AllocError, Global};
-use std::fmt;
 
 // A leg: its street's number, with b if it is driven back.
-fn write_leg(out: &mut String, leg: u64) -> fmt::Result
+fn write_leg(out: &mut String, leg: u64) -> Result<(), AllocError>
     ensures { OnOk result (string_bytes out.new ≡ string_bytes out.old ++ leg_text (leg_in leg)) }
 {
     let street = leg / 2;
@@ -19,7 +18,7 @@ fn write_leg(out: &mut String, leg: u64) -> fmt::Result
 }
 
 // The legs of a round.
-fn write_legs(out: &mut String, legs: &[u64]) -> fmt::Result
+fn write_legs(out: &mut String, legs: &[u64]) -> Result<(), AllocError>
     ensures { OnOk result (string_bytes out.new ≡ string_bytes out.old ++ flat_map leg_text (legs_in legs.now)) }
 {
     for leg in legs {
@@ -28,7 +27,7 @@ fn write_legs(out: &mut String, legs: &[u64]) -> fmt::Result
     Ok(())
 }
 
-fn write_round(out: &mut String, legs: &[u64]) -> fmt::Result
+fn write_round(out: &mut String, legs: &[u64]) -> Result<(), AllocError>
     ensures { OnOk result (string_bytes out.new ≡ string_bytes out.old ++ round_line (legs_in legs.now)) }
 {
     write!(out, "round")?;
@@ -37,14 +36,14 @@ fn write_round(out: &mut String, legs: &[u64]) -> fmt::Result
 }
 
 // The length of a round, and of all streets.
-fn write_length(out: &mut String, long: u64, all: u64) -> fmt::Result
+fn write_length(out: &mut String, long: u64, all: u64) -> Result<(), AllocError>
     ensures { OnOk result (string_bytes out.new ≡ string_bytes out.old ++ length_line long all) }
 {
     writeln!(out, "length {long} of {all}")
 }
 
 // A crossing, if it is marked.
-fn write_mark(out: &mut String, v: usize, mark: u64) -> fmt::Result
+fn write_mark(out: &mut String, v: usize, mark: u64) -> Result<(), AllocError>
     ensures { OnOk result (string_bytes out.new ≡ string_bytes out.old ++ mark_text v (nat_lt 0 mark)) }
 {
     if mark > 0 {
@@ -55,7 +54,7 @@ fn write_mark(out: &mut String, v: usize, mark: u64) -> fmt::Result
 }
 
 // The crossings of a part.
-fn write_marks(out: &mut String, marks: &[u64]) -> fmt::Result
+fn write_marks(out: &mut String, marks: &[u64]) -> Result<(), AllocError>
     ensures { OnOk result (string_bytes out.new ≡ string_bytes out.old ++ marks_text 0 (marks_in marks.now)) }
 {
     for (v, mark) in marks.iter().enumerate() {
@@ -65,7 +64,7 @@ fn write_marks(out: &mut String, marks: &[u64]) -> fmt::Result
 }
 
 // A part: its weight and its crossings.
-fn write_part(out: &mut String, weight: u64, marks: &[u64]) -> fmt::Result
+fn write_part(out: &mut String, weight: u64, marks: &[u64]) -> Result<(), AllocError>
     ensures { OnOk result (string_bytes out.new ≡ string_bytes out.old ++ part_line (part_in weight marks.now)) }
 {
     write!(out, "part {weight} at")?;
@@ -83,7 +82,12 @@ fn part_begin(crossings: usize, numbers: &[u64], i: usize) -> usize
 }
 
 // Part i of a sheet.
-fn write_part_at(out: &mut String, crossings: usize, numbers: &[u64], i: usize) -> fmt::Result
+fn write_part_at(
+    out: &mut String,
+    crossings: usize,
+    numbers: &[u64],
+    i: usize,
+) -> Result<(), AllocError>
     requires { i < length numbers.now / (1 + crossings) }
     ensures { OnOk result (string_bytes out.new ≡ string_bytes out.old ++ part_line (slice_index_or (sheet_in crossings numbers.now) i no_part)) }
 {
@@ -92,7 +96,7 @@ fn write_part_at(out: &mut String, crossings: usize, numbers: &[u64], i: usize) 
 }
 
 // The parts of a sheet; a part of 2^64 numbers would be longer than any list.
-fn write_parts(out: &mut String, crossings: usize, numbers: &[u64]) -> fmt::Result
+fn write_parts(out: &mut String, crossings: usize, numbers: &[u64]) -> Result<(), AllocError>
     ensures { OnOk result (string_bytes out.new ≡ string_bytes out.old ++ flat_map part_line (sheet_in crossings numbers.now)) }
 {
     let Some(width) = crossings.checked_add(1) else {
@@ -111,7 +115,7 @@ fn write_plan(
     parts: &[u64],
     long: u64,
     all: u64,
-) -> fmt::Result
+) -> Result<(), AllocError>
     ensures { OnOk result (string_bytes out.new ≡ string_bytes out.old ++ planned_text (legs_in legs.now) long all (sheet_in crossings parts.now)) }
 {
     write_round(out, legs)?;
@@ -131,8 +135,6 @@ pub fn plan_text(
     ensures { IfOk result (λ s. string_bytes s ≡ planned_text (legs_in legs.now) long all (sheet_in crossings parts.now)) }
 {
     let mut out = String::new(heap);
-    match write_plan(&mut out, crossings as usize, legs, parts, long, all) {
-        Ok(()) => Ok(out),
-        Err(_) => Err(AllocError),
-    }
+    write_plan(&mut out, crossings as usize, legs, parts, long, all)?;
+    Ok(out)
 }

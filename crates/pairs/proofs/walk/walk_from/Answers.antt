@@ -24,7 +24,7 @@ walk-preserved c =
       going_on (model t) (bits (marked c.args.set.now)) (bits (marked c.walk.set)) (bits (marked (set c.walk.set c.in-Some.leg.by false))) c.args.start c.walk.at
           (vec_items c.walk.legs) c.in-Some.leg c.walk.invariant.1 on.below on.begins
           (mark_less (model t) c.walk.set c.walk.at c.in-Some.leg (omega (arith, size_model t, t.few)) c.walk.invariant.0 on)
-          c.end-of-at.result (vec_items c.push.new.self) c.end-of-at.ensures.is c.in-ok-push.ensures.items,
+          c.end_of-at.result (vec_items c.push.new.self) c.end_of-at.ensures.is c.in_ok-push.ensures.items,
     )
 
 pub returns : goal.returns
@@ -33,5 +33,5 @@ returns c =
     let L = marked c.walk.set in (
       refl,
       walk_stuck (model t) (marked c.args.set.now) L c.args.start c.walk.at (vec_items c.walk.legs) c.walk.invariant.1
-          (λ k h. c.in-default.ensures k (omega (arith, size_model t))) c.requires.odd,
+          (λ k h. c.in_default.ensures k (omega (arith, size_model t))) c.requires.odd,
     )

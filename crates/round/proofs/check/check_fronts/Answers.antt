@@ -3,4 +3,4 @@ use native.Mathlib.Nat.{sub-zero}
 use Rattle.round.proofs.check.check_fronts.Goals as goal
 
 pub returns : goal.returns
-returns c = simp sub-zero at c.check-round.ensures.word
+returns c = simp sub-zero at c.check_round.ensures.word

@@ -7,23 +7,23 @@ use Rattle.round.proofs.Planning.{done}
 use Rattle.round.proofs.Checking.{fronts_word}
 use Rattle.round.proofs.check.plan_and_check.Goals as goal
 
-pub check-fronts-word-requires : goal.check-fronts-word-requires
-check-fronts-word-requires c =
+pub check_fronts-word-requires : goal.check_fronts-word-requires
+check_fronts-word-requires c =
     let n = c.args.crossings in
     let xs = c.args.streets.now in
-    let p = c.in-ok-plan.plan in
-    let d = done (plan_refusal n xs c.args.depot) (town_in n xs) c.args.depot c.args.legs.now c.args.parts.now c.plan-round.new.legs c.plan-round.new.parts p c.in-ok-plan.ensures in
+    let p = c.in_ok-plan.plan in
+    let d = done (plan_refusal n xs c.args.depot) (town_in n xs) c.args.depot c.args.legs.now c.args.parts.now c.plan_round.new.legs c.plan_round.new.parts p c.in_ok-plan.ensures in
     let l = ((let_through n xs c.args.depot).0 d.none).0 in
     record {
       few = (l.0.1, omega (arith, d.writes.parts_count, d.agreed.parts));
-      long = (omega (arith, d.writes.legs_count, d.legs_fit, c.plan-round.auto.legs), omega (arith, ap (λ m. m * (1 + n)) d.writes.parts_count, d.parts_fit, c.plan-round.auto.parts));
+      long = (omega (arith, d.writes.legs_count, d.legs_fit, c.plan_round.auto.legs), omega (arith, ap (λ m. m * (1 + n)) d.writes.parts_count, d.parts_fit, c.plan_round.auto.parts));
     }
 
 pub returns : goal.returns
 returns c =
     let n = c.args.crossings in
     let xs = c.args.streets.now in
-    let p = c.in-ok-plan.plan in
-    let a = c.in-ok-plan.ensures in
-    let d = done (plan_refusal n xs c.args.depot) (town_in n xs) c.args.depot c.args.legs.now c.args.parts.now c.plan-round.new.legs c.plan-round.new.parts p a in
-    (a, fronts_word n xs c.args.depot c.args.legs.now c.args.parts.now c.plan-round.new.legs c.plan-round.new.parts p d c.check-fronts-word.result c.check-fronts-word.ensures)
+    let p = c.in_ok-plan.plan in
+    let a = c.in_ok-plan.ensures in
+    let d = done (plan_refusal n xs c.args.depot) (town_in n xs) c.args.depot c.args.legs.now c.args.parts.now c.plan_round.new.legs c.plan_round.new.parts p a in
+    (a, fronts_word n xs c.args.depot c.args.legs.now c.args.parts.now c.plan_round.new.legs c.plan_round.new.parts p d c.check_fronts-word.result c.check_fronts-word.ensures)

@@ -5,7 +5,7 @@ use Rattle.round.proofs.counts.drive_counts.Goals as goal
 use Rattle.round.proofs.counts.drive_counts.Goals.{then-set-k, else-set-k}
 
 pub loop-k-init : goal.loop-k-init
-loop-k-init c = counted_start c.args.set.now c.once-each-counts.result c.once-each-counts.ensures
+loop-k-init c = counted_start c.args.set.now c.once_each-counts.result c.once_each-counts.ensures
 
 pub loop-k-preserved : goal.loop-k-preserved
 loop-k-preserved c =

@@ -11,10 +11,10 @@ use Rattle.round.proofs.planner.plan_sound.Goals as goal
 
 pub returns : goal.returns
 returns c =
-    let s = c.in-ok-least.least in
-    let ls = c.as-slice.result.now in
-    let tour = subst (Tour (town_of s) (depot_of s) (depot_extra s)) (sym c.as-slice.ensures.value) c.in-ok-round.ensures in
-    subst (λ (w : SoundTown). Plans (model w.town) w.town.depot c.args.legs.now c.args.parts.now c.write-plan.new.legs c.write-plan.new.parts c.write-plan.result)
-    c.in-ok-least.ensures.0
-    (plans_of (town_of s) (depot_of s) ls (sheet_from s) c.args.legs.now c.args.parts.now c.write-plan.new.legs c.write-plan.new.parts (agreed s ls tour)
-    c.write-plan.result c.write-plan.ensures)
+    let s = c.in_ok-least.least in
+    let ls = c.as_slice.result.now in
+    let tour = subst (Tour (town_of s) (depot_of s) (depot_extra s)) (sym c.as_slice.ensures.value) c.in_ok-round.ensures in
+    subst (λ (w : SoundTown). Plans (model w.town) w.town.depot c.args.legs.now c.args.parts.now c.write_plan.new.legs c.write_plan.new.parts c.write_plan.result)
+    c.in_ok-least.ensures.0
+    (plans_of (town_of s) (depot_of s) ls (sheet_from s) c.args.legs.now c.args.parts.now c.write_plan.new.legs c.write_plan.new.parts (agreed s ls tour)
+    c.write_plan.result c.write_plan.ensures)

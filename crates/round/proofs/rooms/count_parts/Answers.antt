@@ -5,15 +5,15 @@ use Rattle.join.specs.declared.turn.Stage.{Stage}
 use Rattle.join.specs.Certified.{sheet_of}
 use Rattle.round.proofs.Rooming.{count_skip, count_more}
 use Rattle.round.proofs.rooms.count_parts.Goals as goal
-use Rattle.round.proofs.rooms.count_parts.Goals.{then-is-part, else-is-part}
+use Rattle.round.proofs.rooms.count_parts.Goals.{then-is_part, else-is_part}
 
 pub loop-stage-preserved : goal.loop-stage-preserved
 loop-stage-preserved c =
     let skip = λ (n : ℕ). count_skip n c.args.depot c.args.stages.now c.loop-stage.stage-index c.loop-stage-test.true in
     let more = λ (n : ℕ). count_more n c.args.depot c.args.stages.now c.loop-stage.stage-index c.loop-stage-test.true in
-    elim c.if-is-part.branch [
-      | then-is-part w ↦ (omega (arith, w.count_is), λ n. omega (arith, w.count_is, c.loop-stage.invariant.1 n, more n (c.is-part.ensures.is ∙ ap not w.if-is-part.true)))
-      | else-is-part w ↦ (omega (arith, w.count_is), λ n. omega (arith, w.count_is, c.loop-stage.invariant.1 n, skip n (c.is-part.ensures.is ∙ ap not w.if-is-part.false)))
+    elim c.if-is_part.branch [
+      | then-is_part w ↦ (omega (arith, w.count-is), λ n. omega (arith, w.count-is, c.loop-stage.invariant.1 n, more n (c.is_part.ensures.is ∙ ap not w.if-is_part.true)))
+      | else-is_part w ↦ (omega (arith, w.count-is), λ n. omega (arith, w.count-is, c.loop-stage.invariant.1 n, skip n (c.is_part.ensures.is ∙ ap not w.if-is_part.false)))
     ]
 
 pub returns : goal.returns

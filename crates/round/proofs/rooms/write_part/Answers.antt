@@ -9,5 +9,5 @@ pub returns : goal.returns
 returns c =
     let xs = c.args.room.now in
     let zs = map bit (take c.args.crossings c.args.stage.now.marks) in
-    over_tail (c.weight.result ∷ []) zs xs (set xs 0 c.weight.result) c.write-marks.new.room 1 (push_over [] xs c.weight.result (omega arith)) refl c.write-marks.ensures
+    over_tail (c.weight.result ∷ []) zs xs (set xs 0 c.weight.result) c.write_marks.new.room 1 (push_over [] xs c.weight.result (omega arith)) refl c.write_marks.ensures
     ∙ ap (λ w. over (w ∷ zs) xs) c.weight.ensures

@@ -7,13 +7,13 @@ use Rattle.round.specs.Tours.{count_in, ClosedTour, Tour}
 use Rattle.round.proofs.Driven.{extra_even, extra_tour}
 use Rattle.round.proofs.tour.tour.Goals as goal
 
-pub closed-tour-requires : goal.closed-tour-requires
-closed-tour-requires c = extra_even c.args.least.now c.drives-to-depot.result c.drive-counts-left.result c.drives-to-depot.ensures c.drive-counts-left.ensures
+pub closed_tour-requires : goal.closed_tour-requires
+closed_tour-requires c = extra_even c.args.least.now c.drives_to_depot.result c.drive_counts-left.result c.drives_to_depot.ensures c.drive_counts-left.ensures
 
 pub returns : goal.returns
 returns c =
     let s = c.args.least.now in
-    let xs = c.drive-counts-left.result in
-    let d = count_in c.closed-tour.new.left in
-    IfOk-weaker c.closed-tour.result (λ ls. ClosedTour (town_of s) (count_in xs) d (depot_of s) (vec_items ls)) (λ ls. Tour (town_of s) (depot_of s) (depot_extra s) (vec_items ls))
-    (λ ls. extra_tour s c.drives-to-depot.result xs c.drives-to-depot.ensures c.drive-counts-left.ensures d (vec_items ls)) c.closed-tour.ensures
+    let xs = c.drive_counts-left.result in
+    let d = count_in c.closed_tour.new.left in
+    IfOk-weaker c.closed_tour.result (λ ls. ClosedTour (town_of s) (count_in xs) d (depot_of s) (vec_items ls)) (λ ls. Tour (town_of s) (depot_of s) (depot_extra s) (vec_items ls))
+    (λ ls. extra_tour s c.drives_to_depot.result xs c.drives_to_depot.ensures c.drive_counts-left.ensures d (vec_items ls)) c.closed_tour.ensures

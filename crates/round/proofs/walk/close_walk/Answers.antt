@@ -19,10 +19,10 @@ pub walk-preserved : goal.walk-preserved
 walk-preserved c =
     let t = c.args.town.now in
     walking_on (model t) (omega (arith, size_model t, t.few)) (count_in c.args.left.now) c.walk.left c.args.start c.walk.at (vec_items c.walk.legs) c.walk.invariant
-    c.in-Some.leg c.in-Some.ensures c.end-of-at.result (vec_items c.push.new.self) c.end-of-at.ensures.is c.in-ok-push.ensures.items
+    c.in-Some.leg c.in-Some.ensures c.end_of-at.result (vec_items c.push.new.self) c.end_of-at.ensures.is c.in_ok-push.ensures.items
 
 pub returns : goal.returns
 returns c =
     let t = c.args.town.now in
     walking_stuck (model t) (omega (arith, size_model t, t.few)) (count_in c.args.left.now) c.walk.left c.args.start c.walk.at (vec_items c.walk.legs) c.walk.invariant
-    c.requires (λ k h. c.in-default.ensures k (omega (arith, size_model t)))
+    c.requires (λ k h. c.in_default.ensures k (omega (arith, size_model t)))

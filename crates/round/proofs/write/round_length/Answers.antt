@@ -16,8 +16,8 @@ half c =
     let f : SFits w64 z = search rules in
     c.metres.ensures (number s.price (depot_of s)) (to_z-of_z w64 z f ∙ s.whole (depot_of s)) ∙ depot_half s
 
-pub overflow-add-result : goal.overflow-add-result
-overflow-add-result c =
+pub overflow_add-result : goal.overflow_add-result
+overflow_add-result c =
     let s = c.args.least.now in
     omega (arith, half c, extra_most (town_of s) (depot_extra s), c.all_streets.ensures.is, c.all_streets.ensures.most)
 

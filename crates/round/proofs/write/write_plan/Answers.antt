@@ -10,17 +10,17 @@ use Rattle.round.specs.Rooms.{sheet_numbers, AllMarked, over}
 use Rattle.round.proofs.Planning.{round_far, written_fits}
 use Rattle.round.proofs.write.write_plan.Goals as goal
 
-pub overflow-mul-need : goal.overflow-mul-need
-overflow-mul-need c =
+pub overflow_mul-need : goal.overflow_mul-need
+overflow_mul-need c =
     let s = c.args.least.now in
     let t = s.town.now.town in
-    let e = c.count-parts-count.ensures t.crossings ∙ ap (λ ss. length (sheet_of t.crossings (depot_of s) ss)) c.as-slice-stages.ensures.value in
-    let few : c.count-parts-count.result ≤ 400 = omega (arith, e, (least_drives s).few) in
+    let e = c.count_parts-count.ensures t.crossings ∙ ap (λ ss. length (sheet_of t.crossings (depot_of s) ss)) c.as_slice-stages.ensures.value in
+    let few : c.count_parts-count.result ≤ 400 = omega (arith, e, (least_drives s).few) in
     let wide : 1 + t.crossings ≤ 101 = omega (arith, t.most) in
     omega (arith, mul-le-mul few wide)
 
-pub write-legs-requires : goal.write-legs-requires
-write-legs-requires c =
+pub write_legs-requires : goal.write_legs-requires
+write_legs-requires c =
     let s = c.args.least.now in
     let t = s.town.now.town in
     let low = drive_low (town_of s) (omega (arith, size_model t, t.few)) c.requires.round.drive in
@@ -32,14 +32,14 @@ returns c =
     let t = town_of s in
     let ls = c.args.round.now in
     let ps = sheet_from s in
-    let same = c.as-slice-stages.ensures.value in
+    let same = c.as_slice-stages.ensures.value in
     let n = s.town.now.town.crossings in
-    let count = c.count-parts-count.ensures n ∙ ap (λ ss. length (sheet_of n (depot_of s) ss)) same in
+    let count = c.count_parts-count.ensures n ∙ ap (λ ss. length (sheet_of n (depot_of s) ss)) same in
     written_fits t ls ps c.args.legs.now c.args.parts.now _ _ _ c.if-round-legs.false (omega (arith, ap (λ m. m * (1 + n)) count, c.if-need-parts.false)) (record {
-      round = c.write-legs.ensures;
-      sheet = c.write-parts.ensures.written ∙ ap (λ ss. over (sheet_numbers (sheet_of n (depot_of s) ss)) c.args.parts.now) same;
-      marks = subst (λ ss. AllMarked n (sheet_of n (depot_of s) ss)) same c.write-parts.ensures.marks;
+      round = c.write_legs.ensures;
+      sheet = c.write_parts.ensures.written ∙ ap (λ ss. over (sheet_numbers (sheet_of n (depot_of s) ss)) c.args.parts.now) same;
+      marks = subst (λ ss. AllMarked n (sheet_of n (depot_of s) ss)) same c.write_parts.ensures.marks;
       legs_count = refl;
       parts_count = count;
-      far_is = c.round-length.ensures ∙ sym (round_far t (depot_of s) (depot_extra s) ls c.requires.round c.requires.driven);
+      far_is = c.round_length.ensures ∙ sym (round_far t (depot_of s) (depot_extra s) ls c.requires.round c.requires.driven);
     })

@@ -7,8 +7,8 @@ use Rattle.text.proofs.plan_lines.write_legs.Goals as goal
 
 pub loop-leg-preserved : goal.loop-leg-preserved
 loop-leg-preserved c =
-    next_item (λ x. leg_text (leg_in x)) (string_bytes c.args.out.now) (string_bytes c.loop-leg.out) (string_bytes c.write-leg.new.out) c.args.legs.now c.loop-leg.leg-index 0
-    c.loop-leg-test.true c.loop-leg.invariant c.in-ok-write-leg.ensures
+    next_item (λ x. leg_text (leg_in x)) (string_bytes c.args.out.now) (string_bytes c.loop-leg.out) (string_bytes c.write_leg.new.out) c.args.legs.now c.loop-leg.leg-index 0
+    c.loop-leg-test.true c.loop-leg.invariant c.in_ok-write_leg.ensures
 
 pub returns : goal.returns
 returns c =

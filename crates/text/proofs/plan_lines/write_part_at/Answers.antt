@@ -7,6 +7,6 @@ use Rattle.text.proofs.plan_lines.write_part_at.Goals as goal
 
 pub returns : goal.returns
 returns c =
-    IfOk-weaker c.write-part.result _ _
-    (λ _ e. e ∙ ap (λ p. string_bytes c.args.out.now ++ part_line p) (written_part c.args.crossings c.args.numbers.now c.args.i c.part-begin-at.result c.requires c.part-begin-at.ensures.is))
-    c.write-part.ensures
+    IfOk-weaker c.write_part.result _ _
+    (λ _ e. e ∙ ap (λ p. string_bytes c.args.out.now ++ part_line p) (written_part c.args.crossings c.args.numbers.now c.args.i c.part_begin-at.result c.requires c.part_begin-at.ensures.is))
+    c.write_part.ensures

@@ -10,8 +10,8 @@ use Rattle.text.proofs.plan_lines.write_plan.Goals as goal
 
 pub returns : goal.returns
 returns c =
-    IfOk-weaker c.write-parts.result _ _
+    IfOk-weaker c.write_parts.result _ _
     (λ _ e. three (string_bytes c.args.out.now) (round_line (legs_in c.args.legs.now)) (length_line c.args.long c.args.all) (flat_map part_line (sheet_in c.args.crossings c.args.parts.now))
-    (string_bytes c.write-round.new.out) (string_bytes c.write-length.new.out) (string_bytes c.write-parts.new.out)
-    c.in-ok-write-round.ensures c.in-ok-write-length.ensures e)
-    c.write-parts.ensures
+    (string_bytes c.write_round.new.out) (string_bytes c.write_length.new.out) (string_bytes c.write_parts.new.out)
+    c.in_ok-write_round.ensures c.in_ok-write_length.ensures e)
+    c.write_parts.ensures

@@ -11,6 +11,6 @@ pub returns : goal.returns
 returns c =
     IfOk-weaker c.write-2.result _ _
     (λ _ e. three (string_bytes c.args.out.now) (codes "round") (flat_map leg_text (legs_in c.args.legs.now)) (codes "\n")
-    (string_bytes c.write.new.self) (string_bytes c.write-legs.new.out) (string_bytes c.write-2.new.self)
-    c.in-ok-write.ensures.bytes c.in-ok-write-legs.ensures e)
+    (string_bytes c.write.new.self) (string_bytes c.write_legs.new.out) (string_bytes c.write-2.new.self)
+    c.in_ok-write.ensures.bytes c.in_ok-write_legs.ensures e)
     c.write-2.ensures.bytes
