@@ -1,4 +1,6 @@
 // The planner: a shortest round of a town, and a sheet that agrees with it.
+#![tactic(auto)]
+
 mod check;
 mod checked;
 mod counts;
