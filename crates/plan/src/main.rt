@@ -9,6 +9,7 @@ ghost use Rattle.text.specs.Texts.{town_of, no_plan};
 
 use road::{Refusal, SoundTown};
 use std::alloc::Global;
+use std::process::ExitCode;
 use text::{Error, TownText, read_input, report};
 
 // All streets of a town together, or its refusal.
@@ -32,6 +33,9 @@ fn run(rt: &HostRuntime) -> Result<(), Error> {
     Ok(())
 }
 
-fn main(rt: HostRuntime) -> Result<(), Error> {
-    report(&rt, run(&rt))
+fn main(rt: HostRuntime) -> ExitCode {
+    match report(&rt, run(&rt)) {
+        Ok(()) => ExitCode::SUCCESS,
+        Err(_) => ExitCode::FAILURE,
+    }
 }

@@ -6,6 +6,7 @@ mod tests;
 use crate::printed::plan_town;
 use round::NoPlan;
 use std::alloc::Global;
+use std::process::ExitCode;
 use text::{Error, TownText, read_input, report};
 
 // The answer to a text of a town.
@@ -24,6 +25,9 @@ fn run(rt: &HostRuntime) -> Result<(), Error> {
     Ok(())
 }
 
-fn main(rt: HostRuntime) -> Result<(), Error> {
-    report(&rt, run(&rt))
+fn main(rt: HostRuntime) -> ExitCode {
+    match report(&rt, run(&rt)) {
+        Ok(()) => ExitCode::SUCCESS,
+        Err(_) => ExitCode::FAILURE,
+    }
 }

@@ -11,37 +11,37 @@ use Rattle.planner.specs.Printed.{Planned}
 use Rattle.planner.proofs.Printing.{printed, turned_away}
 use Rattle.planner.proofs.printed.plan_in.Goals as goal
 
-pub returns-in-err-checked : goal.returns-in-err-checked
-returns-in-err-checked c =
+pub returns-in_err-checked : goal.returns-in_err-checked
+returns-in_err-checked c =
     let x = c.args.given.now in
-    let p = err_from_is_err_and c.from-residual.result c.from-residual.ensures.1 in
-    let e = c.in-err-checked.field-0.0 in
+    let p = err_from_is_err_and c.from_residual.result c.from_residual.ensures.1 in
+    let e = c.in_err-checked.field-0.0 in
     let a =
-    subst (λ ys. Answers (plan_refusal x.crossings ys x.depot) (town_in x.crossings ys) x.depot c.args.legs.now c.args.parts.now c.plan-and-check.new.legs c.plan-and-check.new.parts (Err e))
-    c.as-slice.ensures.value c.in-err-checked.ensures in
+    subst (λ ys. Answers (plan_refusal x.crossings ys x.depot) (town_in x.crossings ys) x.depot c.args.legs.now c.args.parts.now c.plan_and_check.new.legs c.plan_and_check.new.parts (Err e))
+    c.as_slice.ensures.value c.in_err-checked.ensures in
     rw (p.1, p.2) (
-    turned_away (no_plan x) (town_of x) x.depot c.args.legs.now c.args.parts.now c.plan-and-check.new.legs c.plan-and-check.new.parts e a c.requires.legs c.requires.parts)
+    turned_away (no_plan x) (town_of x) x.depot c.args.legs.now c.args.parts.now c.plan_and_check.new.legs c.plan_and_check.new.parts e a c.requires.legs c.requires.parts)
 
-pub fronts-text-requires : goal.fronts-text-requires
-fronts-text-requires c =
+pub fronts_text-requires : goal.fronts_text-requires
+fronts_text-requires c =
     let x = c.args.given.now in
     let n = x.crossings in
-    let xs = c.as-slice.result.now in
-    let p = c.in-ok-checked.checked.plan in
-    let d = done (plan_refusal n xs x.depot) (town_in n xs) x.depot c.args.legs.now c.args.parts.now c.plan-and-check.new.legs c.plan-and-check.new.parts p c.in-ok-checked.ensures.0 in
+    let xs = c.as_slice.result.now in
+    let p = c.in_ok-checked.checked.plan in
+    let d = done (plan_refusal n xs x.depot) (town_in n xs) x.depot c.args.legs.now c.args.parts.now c.plan_and_check.new.legs c.plan_and_check.new.parts p c.in_ok-checked.ensures.0 in
     let l = ((let_through n xs x.depot).0 d.none).0 in
     record {
       few = (l.0.1, omega (arith, d.writes.parts_count, d.agreed.parts));
-      long = (omega (arith, d.writes.legs_count, d.legs_fit, c.plan-and-check.auto.legs), omega (arith, ap (λ m. m * (1 + n)) d.writes.parts_count, d.parts_fit, c.plan-and-check.auto.parts));
+      long = (omega (arith, d.writes.legs_count, d.legs_fit, c.plan_and_check.auto.legs), omega (arith, ap (λ m. m * (1 + n)) d.writes.parts_count, d.parts_fit, c.plan_and_check.auto.parts));
     }
 
 pub returns : goal.returns
 returns c =
     let x = c.args.given.now in
     let n = x.crossings in
-    let xs = c.as-slice.result.now in
-    let p = c.in-ok-checked.checked.plan in
-    let text = string_bytes c.in-ok-fronts-text.field-0 in
-    let d = done (plan_refusal n xs x.depot) (town_in n xs) x.depot c.args.legs.now c.args.parts.now c.plan-and-check.new.legs c.plan-and-check.new.parts p c.in-ok-checked.ensures.0 in
-    subst (λ ys. Planned (plan_refusal n ys x.depot) (town_in n ys) x.depot c.args.all text) c.as-slice.ensures.value
-    (printed n xs x.depot c.args.all c.args.legs.now c.args.parts.now c.plan-and-check.new.legs c.plan-and-check.new.parts text p d c.in-ok-fronts-text.ensures)
+    let xs = c.as_slice.result.now in
+    let p = c.in_ok-checked.checked.plan in
+    let text = string_bytes c.in_ok-fronts_text.field-0 in
+    let d = done (plan_refusal n xs x.depot) (town_in n xs) x.depot c.args.legs.now c.args.parts.now c.plan_and_check.new.legs c.plan_and_check.new.parts p c.in_ok-checked.ensures.0 in
+    subst (λ ys. Planned (plan_refusal n ys x.depot) (town_in n ys) x.depot c.args.all text) c.as_slice.ensures.value
+    (printed n xs x.depot c.args.all c.args.legs.now c.args.parts.now c.plan_and_check.new.legs c.plan_and_check.new.parts text p d c.in_ok-fronts_text.ensures)

@@ -4,6 +4,7 @@ mod tests;
 
 use sheet::Word;
 use std::alloc::Global;
+use std::process::ExitCode;
 use text::{Error, RoundText, Said, read_input, report};
 
 // The word on a text of a town, a round and a sheet; a refusal is an error.
@@ -21,6 +22,9 @@ fn run(rt: &HostRuntime) -> Result<(), Error> {
     Ok(())
 }
 
-fn main(rt: HostRuntime) -> Result<(), Error> {
-    report(&rt, run(&rt))
+fn main(rt: HostRuntime) -> ExitCode {
+    match report(&rt, run(&rt)) {
+        Ok(()) => ExitCode::SUCCESS,
+        Err(_) => ExitCode::FAILURE,
+    }
 }
