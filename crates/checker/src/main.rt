@@ -1,3 +1,5 @@
+#![tactic(auto)]
+
 // Checks a round and a sheet: prints the checker's word on them.
 #[cfg(test)]
 mod tests;

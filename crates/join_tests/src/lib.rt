@@ -1,3 +1,5 @@
+#![tactic(auto)]
+
 // Tests of least extra drives: towns with known lengths, and random towns beside the least of all sets.
 #[cfg(test)]
 mod built;

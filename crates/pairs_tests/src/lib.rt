@@ -1,3 +1,5 @@
+#![tactic(auto)]
+
 // Tests of the pairs of odd crossings: towns by hand and by rule, with the length of their extra drives.
 #[cfg(test)]
 mod built;

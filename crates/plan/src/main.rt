@@ -1,3 +1,5 @@
+#![tactic(auto)]
+
 // Plans a town: all of its streets together, if each can be come to from the depot.
 #[cfg(test)]
 mod tests;

@@ -1,4 +1,6 @@
 // Plans a town: prints a shortest round, its length beside that of all streets, and a sheet that agrees with it.
+#![tactic(auto)]
+
 mod printed;
 #[cfg(test)]
 mod tests;

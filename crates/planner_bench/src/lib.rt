@@ -1,4 +1,6 @@
 // Least extra drives of a town, with how long it took to find them, and whole plans, for the benchmark.
+#![tactic(auto)]
+
 use join::LeastDrives;
 use road::{Refusal, SoundTown, Town};
 use round::plan_round;

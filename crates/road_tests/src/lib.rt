@@ -1,3 +1,5 @@
+#![tactic(auto)]
+
 // Tests of road by table: refusals with their places, and drives with their faults.
 #[cfg(test)]
 mod tests {

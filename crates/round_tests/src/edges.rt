@@ -7,7 +7,7 @@ use std::test::*;
 
 // Checks that a town without streets has the empty round and the empty sheet.
 fn check_empty(rt: &impl Abort, heap: Global, crossings: u64, depot: u64) -> Result<(), Fail> {
-    let plan = Quarter::new(heap, crossings, &[], depot)?.checked_plan(heap)?;
+    let plan = Quarter::new(heap, crossings, &[], depot)?.checked_plan(rt, heap)?;
     assert_eq!(rt;
         plan,
         Plan {

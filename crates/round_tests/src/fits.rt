@@ -20,19 +20,19 @@ fn check_short(
     let mut rooms = Rooms::new(heap, legs, parts)?;
     let answer = quarter.plan(&mut rooms, heap);
     assert_eq!(rt; refusal_of(answer), Some(Refusal::Room(need as u64)));
-    rooms.check_filled(0, 0)
+    rooms.check_filled(rt, 0, 0)
 }
 
 // Checks that rooms that just suffice do.
 fn check_fits(rt: &impl Abort, quarter: &Quarter, plan: Plan, heap: Global) -> Result<(), Fail> {
     let mut rooms = Rooms::new(heap, plan.legs, quarter.room(plan.parts))?;
     assert_eq!(rt; given(quarter.plan(&mut rooms, heap))?, plan);
-    quarter.check_written(plan, &rooms)
+    quarter.check_written(rt, plan, &rooms)
 }
 
 // Checks rooms that just suffice, and rooms that are too short by one number or more.
 pub(crate) fn check_rooms(rt: &impl Abort, quarter: &Quarter, heap: Global) -> Result<(), Fail> {
-    let plan = quarter.checked_plan(heap)?;
+    let plan = quarter.checked_plan(rt, heap)?;
     let legs = plan.legs;
     let parts = quarter.room(plan.parts);
     assert!(rt; legs > 0 && parts > 0);

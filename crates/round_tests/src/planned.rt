@@ -84,32 +84,37 @@ impl Quarter {
     }
 
     // Each street is driven once or twice, and one whose ends are one crossing once, from one to two.
-    fn check_drives(&self, legs: &[u64]) -> Result<(), Fail> {
+    fn check_drives(&self, rt: &impl Abort, legs: &[u64]) -> Result<(), Fail> {
         for (k, street) in self.streets.chunks(3).enumerate() {
             let times = times(legs, k as u64);
-            assert!(times == 1 || times == 2);
+            assert!(rt; times == 1 || times == 2);
             if is_loop(street) {
-                assert!(times == 1 && !is_driven_back(legs, k as u64));
+                assert!(rt; times == 1 && !is_driven_back(legs, k as u64));
             }
         }
         Ok(())
     }
 
     // The checker's word on what was written is that the round is a shortest one, and the rest of the rooms is as it was.
-    pub(crate) fn check_written(&self, plan: Plan, rooms: &Rooms) -> Result<(), Fail> {
+    pub(crate) fn check_written(
+        &self,
+        rt: &impl Abort,
+        plan: Plan,
+        rooms: &Rooms,
+    ) -> Result<(), Fail> {
         let room = self.room(plan.parts);
         let legs = rooms.legs(plan.legs)?;
         let parts = rooms.parts(room)?;
-        assert_eq!(
+        assert_eq!(rt;
             check_round(self.crossings, &self.streets, self.depot, legs, parts),
             Word::Shortest(u128::from(plan.length))
         );
-        self.check_drives(legs)?;
-        rooms.check_filled(plan.legs, room)
+        self.check_drives(rt, legs)?;
+        rooms.check_filled(rt, plan.legs, room)
     }
 
     // The planner that calls the checker itself tells the same.
-    fn check_with_word(&self, plan: Plan, heap: Global) -> Result<(), Fail> {
+    fn check_with_word(&self, rt: &impl Abort, plan: Plan, heap: Global) -> Result<(), Fail> {
         let mut rooms = Rooms::ample(heap)?;
         let checked = given(plan_and_check(
             self.crossings,
@@ -119,17 +124,17 @@ impl Quarter {
             &mut rooms.parts,
             heap,
         ))?;
-        assert_eq!(checked.plan, plan);
-        assert_eq!(checked.word, Word::Shortest(u128::from(plan.length)));
-        self.check_written(plan, &rooms)
+        assert_eq!(rt; checked.plan, plan);
+        assert_eq!(rt; checked.word, Word::Shortest(u128::from(plan.length)));
+        self.check_written(rt, plan, &rooms)
     }
 
     // The plan, once it is checked.
-    pub(crate) fn checked_plan(&self, heap: Global) -> Result<Plan, Fail> {
+    pub(crate) fn checked_plan(&self, rt: &impl Abort, heap: Global) -> Result<Plan, Fail> {
         let mut rooms = Rooms::ample(heap)?;
         let plan = given(self.plan(&mut rooms, heap))?;
-        self.check_written(plan, &rooms)?;
-        self.check_with_word(plan, heap)?;
+        self.check_written(rt, plan, &rooms)?;
+        self.check_with_word(rt, plan, heap)?;
         Ok(plan)
     }
 }
@@ -143,7 +148,7 @@ pub(crate) fn check_from(
     depot: u64,
     length: u64,
 ) -> Result<(), Fail> {
-    let plan = Quarter::new(heap, crossings, streets, depot)?.checked_plan(heap)?;
+    let plan = Quarter::new(heap, crossings, streets, depot)?.checked_plan(rt, heap)?;
     assert_eq!(rt; plan.length, length);
     Ok(())
 }

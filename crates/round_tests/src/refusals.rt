@@ -33,7 +33,7 @@ fn check_refused(
     assert_eq!(rt; refusal_of(answer), Some(refusal));
     let answer = plan_and_check(crossings, streets, depot, legs, parts, heap);
     assert_eq!(rt; refusal_of(answer), Some(refusal));
-    rooms.check_filled(0, 0)
+    rooms.check_filled(rt, 0, 0)
 }
 
 #[test]

@@ -1,5 +1,6 @@
 // Rooms for legs and parts, filled beforehand.
 use std::alloc::Global;
+use std::process::Abort;
 use std::test::*;
 
 // What the rooms are filled with: no leg, no weight and no mark.
@@ -53,9 +54,14 @@ impl Rooms {
     }
 
     // Whether past so many numbers of legs and of parts all are as they were.
-    pub(crate) fn check_filled(&self, legs: usize, parts: usize) -> Result<(), Fail> {
-        assert!(is_filled(&self.legs, legs));
-        assert!(is_filled(&self.parts, parts));
+    pub(crate) fn check_filled(
+        &self,
+        rt: &impl Abort,
+        legs: usize,
+        parts: usize,
+    ) -> Result<(), Fail> {
+        assert!(rt; is_filled(&self.legs, legs));
+        assert!(rt; is_filled(&self.parts, parts));
         Ok(())
     }
 }

@@ -1,3 +1,5 @@
+#![tactic(auto)]
+
 // Tests of the checker by table: every word and every refusal with its place, and what only looks right.
 #[cfg(test)]
 mod tests {

@@ -1,4 +1,6 @@
 // All distances of a town added up, for the benchmark.
+#![tactic(auto)]
+
 use road::Town;
 use std::alloc::Global;
 use ways::Ways;

@@ -1,3 +1,5 @@
+#![tactic(auto)]
+
 // Tests of shortest ways: a table of towns, and random towns beside another method.
 #[cfg(test)]
 mod common;
