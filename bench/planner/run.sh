@@ -3,8 +3,8 @@
 set -eu
 cd "$(dirname "$0")/../.."
 rt=${RT:-rt}
-kit=$(dirname "$(dirname "$("$rt" doc)")")
-"$rt" staticlib planner_bench
+kit=$(dirname "$("$rt" doc)")
+(cd crates/planner_bench && "$rt" lib)
 mkdir -p target/bench
-"${CXX:-clang++}" -O3 -march=native -std=c++17 -pthread bench/planner/bench.cpp target/staticlib/libplanner_bench.a "$kit/lib/librattle_c.a" -o target/bench/planner
+"${CXX:-clang++}" -O3 -march=native -std=c++17 -pthread bench/planner/bench.cpp crates/planner_bench/out/libplanner_bench.a "$kit/c/liblibc_c.a" "$kit/c/libos_c.a" -o target/bench/planner
 target/bench/planner
