@@ -10,7 +10,7 @@ use Rattle.join.specs.declared.partition.Classes.{Classes}
 use Rattle.join.specs.declared.prices.Prices.{Prices}
 use Rattle.join.specs.declared.problem.Problem.{Problem}
 use Rattle.join.specs.Joins.{Joins, at, cost, Zero}
-use Rattle.join.specs.Prices.{town_in, costs_in, start_in, reached_in, extra_in, price_in, Priced, AllNear}
+use Rattle.join.specs.Prices.{town_in, costs_in, start_in, reached_in, extra_in, price_in, EvenCosts, Priced, AllNear}
 use Rattle.join.specs.Classes.{label_in, Classed, Alone}
 use Rattle.join.specs.Potentials.{Potential}
 use Rattle.join.specs.Turns.{lengths_at, potential_at, Filled, Pass}
@@ -31,10 +31,10 @@ cost_even : (t : roads.Town) (l : ℕ → ℕ) (J : Set) → ((k : ℕ) → l k 
 cost_even t l J even =
     odd_mod (cost t l J) ∙ ap bit (cost_odd t l (λ _. false) J (λ k _. odd_none (l k) (even k)) ∙ out_none t J (λ _. false) (λ k _ c. absurd (both_ways false refl c)))
 
-module _ (p : Problem) (q : Prices) (d : Priced p q) where
+module _ (p : Problem) (c : EvenCosts p) (q : Prices) (d : Priced p q) where
   -- the price of an end of a street is even
   price_even : (u : ℕ) → reached_in p u ≡ true → price_in q u % 2 ≡ 0
-  price_even u h = ap (λ n. n % 2) (d.costs u h) ∙ cost_even (town_in p) (costs_in p) (extra_in q u) p.even
+  price_even u h = ap (λ n. n % 2) (d.costs u h) ∙ cost_even (town_in p) (costs_in p) (extra_in q u) c.even
 
   module _ (near : AllNear p q p.town.now.count) where
     in_one : (k x y : ℕ) → k < size (town_in p) → Side (town_in p) k x y → reached_in p x ≡ true
@@ -56,7 +56,7 @@ module _ (p : Problem) (q : Prices) (d : Priced p q) where
       joins = d.joins;
       low = λ u h. omega (arith, d.costs u h);
       near = near_side;
-      even = λ k x y h s. omega (arith, price_even x (in_one k x y h s), price_even y (in_two k x y h s), p.even k);
+      even = λ k x y h s. omega (arith, price_even x (in_one k x y h s), price_even y (in_two k x y h s), c.even k);
     }
 
     pub begin_pass : (v : Level) → Filled v → lengths_at v ≡ costs_in p → potential_at v ≡ price_in q → Pass p q v
@@ -75,7 +75,6 @@ begin_after p q v el eg = record { streets = el; crossings = eg }
 alone_classed : (t : roads.Town) (l : ℕ → ℕ) (c : Classes) → Alone c → Classed t l c
 alone_classed t l c a = record {
   full = a.full;
-  labels = labels_start c a.labels;
   leads = λ v h. subst (λ W. Joins t (at (label_in c v)) v W) (sym (a.ways v)) (subst (λ u. Joins t (at u) v (λ _. false)) (sym (a.labels v h)) (join_none t v));
   zero = λ v h. subst (Zero t l) (sym (a.ways v)) (λ k _ e. absurd (both_ways false refl e));
 }
@@ -86,5 +85,5 @@ begin_run p q v c s f a = record {
   classed = alone_classed (town_in p) (lengths_at v) c a;
   staged = λ i h. absurd (omega arith);
   after = f;
-  progress = progress_start (town_in p) (lengths_at v) (potential_at v) c;
+  progress = progress_start (town_in p) (lengths_at v) (potential_at v) c (labels_start c a.labels);
 }

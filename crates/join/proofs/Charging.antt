@@ -36,7 +36,6 @@ module _ (p : Problem) (q : Prices) (v : Level) (Z : Set) (e b : ℕ) (s : Pass 
 pub classed_on : (t : Town) (l l' : ℕ → ℕ) (c : Classes) (Z : Set) (e : ℕ) → Classed t l c → l' ≡ shorter t Z e l → Classed t l' c
 classed_on t l l' c Z e p el = record {
   full = p.full;
-  labels = p.labels;
   leads = p.leads;
   zero = λ v h k i own. omega (arith, p.zero v h k i own, ap (λ f. f k) el);
 }

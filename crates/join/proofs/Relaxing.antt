@@ -13,7 +13,7 @@ use Rattle.join.specs.declared.prices.Prices.{Prices}
 use Rattle.join.specs.Joins.{◌⊞◌, single, Joins, cost}
 use Rattle.join.specs.Amounts.{number, row}
 use Rattle.join.specs.Weights.{end_of}
-use Rattle.join.specs.Prices.{town_in, costs_in, start_in, reached_in, extra_in, price_in, Priced, all_prices, Near}
+use Rattle.join.specs.Prices.{town_in, costs_in, start_in, reached_in, extra_in, price_in, Priced, Bounded, all_prices, Near}
 use Rattle.join.proofs.Joins.{join_on, side_join}
 use Rattle.join.proofs.StreetSets.{cost_near, cost_bound}
 use Rattle.join.proofs.Writing.{number_same, number_other, whole_set, most_set}
@@ -47,13 +47,16 @@ module _ (p : Problem) (q : Prices) (d : Priced p q) (y : ℕ) (J : List Bool) (
       gap : (a b : ℕ) → a < b → (g : ℕ) × (0 < g) × (b ≡ a + g)
       gap a b i = (b - a, omega arith, omega arith)
 
+  -- what a set costs is within the bound
+  pub bounded_set : c ≡ cost (town_in p) (costs_in p) (marked J) → Bounded q → Bounded (with_set q y J z)
+  bounded_set eq b = record { most = most_set q.price y z c e at_price 1200000000000 (omega (arith, eq, cost_bound p.town.now (costs_in p) (marked J) p.most)) b.most }
+
   -- the set leads there, and that is its cost
   pub priced_set : Joins (town_in p) (start_in p) y (marked J) → c ≡ cost (town_in p) (costs_in p) (marked J) → Priced p (with_set q y J z)
   priced_set join eq = record {
     rows = length-set (vec_items q.extra) y J ∙ d.rows;
     places = length-set q.price y z ∙ d.places;
     whole = whole_set q.price y z c e at_price d.whole;
-    high = most_set q.price y z c e at_price 1200000000000 (omega (arith, eq, cost_bound p.town.now (costs_in p) (marked J) p.most)) d.high;
     joins = λ u m. ⊎_elim (joins_here u) (joins_there u m) (cases_eq u y);
     costs = λ u m. ⊎_elim (costs_here u) (costs_there u m) (cases_eq u y);
   }
@@ -93,9 +96,10 @@ module _ (p : Problem) (q : Prices) (d : Priced p q) (k : ℕ) (b : Bool) (h : k
 
   -- the set for y, by the street from x, in place of a dearer one
   pub over_set : (J : List Bool) (z : ℤ) → y < 100 → marked J ≡ extra_in q x ⊞ single k → z ≡ pos c → c < price_in q y →
-      Priced p (with_set q y J z) × (all_prices (with_set q y J z) < all_prices q)
+      Priced p (with_set q y J z) × (Bounded q → Bounded (with_set q y J z)) × (all_prices (with_set q y J z) < all_prices q)
   over_set J z i eJ e lt =
-      (priced_set p q d y J z c e i (rw eJ over_join) (ec ∙ ap (cost (town_in p) (costs_in p)) (sym eJ)), prices_set p q d y J z c e i lt)
+      let eq = ec ∙ ap (cost (town_in p) (costs_in p)) (sym eJ) in
+      (priced_set p q d y J z c e i (rw eJ over_join) eq, bounded_set p q d y J z c e i eq, prices_set p q d y J z c e i lt)
 
   -- where it is no dearer, the prices are near
   pub over_near : price_in q y ≤ c → Near p q k b

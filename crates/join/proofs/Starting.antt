@@ -7,7 +7,7 @@ use Rattle.join.specs.declared.problem.Problem.{Problem}
 use Rattle.join.specs.declared.prices.Prices.{Prices}
 use Rattle.join.specs.Joins.{Joins, cost}
 use Rattle.join.specs.Amounts.{amount, number, row, Whole, Most}
-use Rattle.join.specs.Prices.{town_in, costs_in, start_in, reached_in, extra_in, price_in}
+use Rattle.join.specs.Prices.{town_in, costs_in, start_in, reached_in, extra_in, price_in, Bounded}
 use Rattle.join.specs.First.{Begun}
 use Rattle.join.proofs.StreetSets.{cost_bound}
 use Rattle.join.proofs.Writing.{nought, whole_none, number_same, number_other, whole_set, most_set}
@@ -18,10 +18,12 @@ begun_none p q none zero = record {
   rows = ap length none;
   places = ap length zero ∙ length-replicate 100 (pos 0);
   whole = subst Whole (sym zero) (whole_none 100);
-  high = λ k. subst (λ (zs : List ℤ). number zs k ≤ 1200000000000) (sym zero) (omega (arith, ap amount (nought 100 k)));
   joins = λ u h. absurd (omega arith);
   costs = λ u h. absurd (omega arith);
 }
+
+pub bounded_none : (q : Prices) → q.price ≡ replicate 100 (pos 0) → Bounded q
+bounded_none q zero = record { most = λ k. subst (λ (zs : List ℤ). number zs k ≤ 1200000000000) (sym zero) (omega (arith, ap amount (nought 100 k))) }
 
 -- one crossing more
 module _ (p : Problem) (q q' : Prices) (u : ℕ) (b : Begun p q u) (low : u < 100) (J : List Bool) (z : ℤ) (extra : vec_items q'.extra ≡ vec_items q.extra ++ J ∷ [])
@@ -42,12 +44,16 @@ module _ (p : Problem) (q q' : Prices) (u : ℕ) (b : Begun p q u) (low : u < 10
   price_here : price_in q' u ≡ cost (town_in p) (costs_in p) (marked J)
   price_here = ap (λ (zs : List ℤ). number zs u) price ∙ number_same q.price u z _ is at_price
 
+  pub bounded_more : Bounded q → Bounded q'
+  bounded_more h = record {
+    most = subst (Most 1200000000000) (sym price) (most_set q.price u z _ is at_price 1200000000000 (cost_bound p.town.now (costs_in p) (marked J) p.most) h.most);
+  }
+
   pub begun_more : (reached_in p u ≡ true → Joins (town_in p) (start_in p) u (marked J)) → Begun p q' (u + 1)
   begun_more leads = record {
     rows = ap length extra ∙ length_push (vec_items q.extra) J ∙ ap (λ n. n + 1) b.rows;
     places = ap length price ∙ length-set q.price u z ∙ b.places;
     whole = subst Whole (sym price) (whole_set q.price u z _ is at_price b.whole);
-    high = subst (Most 1200000000000) (sym price) (most_set q.price u z _ is at_price 1200000000000 (cost_bound p.town.now (costs_in p) (marked J) p.most) b.high);
     joins = λ v h r. ⊎_elim (λ e. joins_here v e r) (λ ne. let i : v < u = omega arith in subst (Joins (town_in p) (start_in p) v) (sym (set_before v i)) (b.joins v i r)) (cases_eq v u);
     costs = λ v h r. ⊎_elim (costs_here v)
         (λ ne. let i : v < u = omega arith in price_before v i ∙ b.costs v i r ∙ ap (cost (town_in p) (costs_in p)) (sym (set_before v i))) (cases_eq v u);

@@ -10,7 +10,7 @@ use Rattle.road.specs.Model.{marked}
 use Rattle.road.proofs.Parity.{xor_true, xor_self, xor_cancel, xor_assoc, xor_swap}
 use Rattle.join.specs.declared.partition.Classes.{Classes}
 use Rattle.join.specs.Joins.{◌⊞◌, single, Joins, at, Zero, Class}
-use Rattle.join.specs.Classes.{label_in, way_in, Labels, Classed, Merged, Absorbed, Kept, class_in}
+use Rattle.join.specs.Classes.{label_in, way_in, Classed, Merged, Absorbed, Kept, class_in}
 use Rattle.join.proofs.Joins.{join_on, join_back, side_join}
 use Rattle.join.proofs.Labels.{pick_same, pick_other, relabelled, label_kept}
 
@@ -95,10 +95,9 @@ module _ (from to : ℕ) (link : Set) (c d : Classes) (p : Absorbed from to link
   absorbed_both x y hx hy ex ey = ⊎_elim (label_from x hx) (λ ne. label_other x hx ne ∙ ex) (cases_eq (label_in c x) from) ∙ sym (label_from y hy ey)
 
   -- the ways still lead over streets of no length
-  pub absorbed_classed : (t : Town) (l : ℕ → ℕ) → Classed t l c → Labels 100 (label_in d) → Joins t (at to) from link → Zero t l link → Classed t l d
-  absorbed_classed t l r s j z = record {
+  pub absorbed_classed : (t : Town) (l : ℕ → ℕ) → Classed t l c → Joins t (at to) from link → Zero t l link → Classed t l d
+  absorbed_classed t l r j z = record {
     full = p.full;
-    labels = s;
     leads = λ v h. ⊎_elim (leads_from v h) (leads_other v h) (cases_eq (label_in c v) from);
     zero = λ v h. ⊎_elim (zero_from v h) (zero_other v h) (cases_eq (label_in c v) from);
   }

@@ -26,7 +26,6 @@ pub record Labels (n : ℕ) (cls : ℕ → ℕ) : Type 0 where
 -- the way of a crossing leads to it from the crossing that its label names, over streets of no length
 pub record Classed (t : Town) (l : ℕ → ℕ) (c : Classes) : Type 0 where
   pub full : Full c
-  pub labels : Labels 100 (label_in c)
   pub leads : (v : ℕ) → v < 100 → Joins t (at (label_in c v)) v (way_in c v)
   pub zero : (v : ℕ) → v < 100 → Zero t l (way_in c v)
 

@@ -8,7 +8,7 @@ use Rattle.ways.specs.Shown.{to, AllShown}
 use Rattle.join.specs.declared.problem.Problem.{Problem}
 use Rattle.join.specs.declared.prices.Prices.{Prices}
 use Rattle.join.specs.Joins.{Joins, cost}
-use Rattle.join.specs.Amounts.{Whole, Most}
+use Rattle.join.specs.Amounts.{Whole}
 use Rattle.join.specs.Prices.{town_in, costs_in, start_in, reached_in, extra_in, price_in}
 
 -- where the set K leads to the depot, J leads to u, if there is a way
@@ -26,6 +26,5 @@ pub record Begun (p : Problem) (q : Prices) (n : ℕ) : Type 0 where
   pub rows : length (vec_items q.extra) ≡ n
   pub places : length q.price ≡ 100
   pub whole : Whole q.price
-  pub high : Most 1200000000000 q.price
   pub joins : (u : ℕ) → u < n → reached_in p u ≡ true → Joins (town_in p) (start_in p) u (extra_in q u)
   pub costs : (u : ℕ) → u < n → reached_in p u ≡ true → price_in q u ≡ cost (town_in p) (costs_in p) (extra_in q u)

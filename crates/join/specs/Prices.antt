@@ -1,5 +1,5 @@
 -- Sets of extra drives for the crossings, with their prices. Assumes nothing: these are definitions.
-use Rattle.std.specs.Prelude.{◌≡◌, ℕ, ◌+◌, ◌<◌, ◌≤◌, Bool, true, false, not, length, vec_items}
+use Rattle.std.specs.Prelude.{◌≡◌, ℕ, ◌+◌, ◌%◌, ◌<◌, ◌≤◌, Bool, true, false, not, length, vec_items}
 use Rattle.road.specs.Roads.{Town}
 use Rattle.road.specs.Counts.{sum, Set}
 use Rattle.road.specs.Model.{model, marked}
@@ -22,6 +22,11 @@ start_in p = once (town_in p) (marked p.required.now) p.town.now.depot
 abbrev pub reached_in : Problem → Set
 reached_in p = marked p.reached.now
 
+-- there is a cost for each street, and all are even
+pub record EvenCosts (p : Problem) : Type 0 where
+  pub streets : length p.costs.now ≡ 300
+  pub even : (k : ℕ) → costs_in p k % 2 ≡ 0
+
 -- the set for each crossing, and its price
 abbrev pub extra_in : Prices → ℕ → Set
 extra_in q = row (vec_items q.extra)
@@ -34,9 +39,12 @@ pub record Priced (p : Problem) (q : Prices) : Type 0 where
   pub rows : length (vec_items q.extra) ≡ 100
   pub places : length q.price ≡ 100
   pub whole : Whole q.price
-  pub high : Most 1200000000000 q.price
   pub joins : (u : ℕ) → reached_in p u ≡ true → Joins (town_in p) (start_in p) u (extra_in q u)
   pub costs : (u : ℕ) → reached_in p u ≡ true → price_in q u ≡ cost (town_in p) (costs_in p) (extra_in q u)
+
+-- no price is above that of all streets driven again
+pub record Bounded (q : Prices) : Type 0 where
+  pub most : Most 1200000000000 q.price
 
 -- all prices together
 abbrev pub all_prices : Prices → ℕ

@@ -5,7 +5,7 @@ use Rattle.road.specs.Counts.{bit, sum, size, Set, Side}
 use Rattle.join.specs.declared.partition.Classes.{Classes}
 use Rattle.join.specs.declared.turn.Turn.{Turn}
 use Rattle.join.specs.declared.turn.Turn.TheVariants.{Better, Charge, Done}
-use Rattle.join.specs.Classes.{label_in}
+use Rattle.join.specs.Classes.{label_in, Labels}
 
 -- a class that some street leaves to a crossing that is as much nearer as the street is long
 pub record Spent (t : Town) (l f cls : ℕ → ℕ) (c : ℕ) : Type 0 where
@@ -24,6 +24,7 @@ steps_left n cls spent = 2 * sum n (λ v. bit (cls v == v)) + sum n (λ v. bit (
 
 -- after n charges some classes are spent, and no more than 300 - n steps are left
 pub record Progress (t : Town) (l g : ℕ → ℕ) (c : Classes) (n : ℕ) : Type 0 where
+  pub labels : Labels 100 (label_in c)
   pub spent : Set
   pub shown : (a : ℕ) → spent a ≡ true → Spent t l g (label_in c) a
   pub few : n + steps_left 100 (label_in c) spent ≤ 300

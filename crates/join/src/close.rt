@@ -71,7 +71,7 @@ impl Cut<'_, '_> {
             (Closes (ground self.now) (side_of self.now) (marked drives.now) (marked base.now)) }
     {
         let out = self.exit_at(k);
-        component.reach(self.town, &self.outside(drives, base), out.outer);
+        component.search(self.town, &self.outside(drives, base), out.outer);
         match self.second_exit(drives, &component.marks, k) {
             Some(j) => {
                 let back = self.exit_at(j);

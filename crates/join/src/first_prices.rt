@@ -3,7 +3,7 @@ ghost use Rattle.std.specs.Prelude.{◌≡◌, ◌+◌, ◌<◌, true, replicate
 ghost use Rattle.road.specs.Model.{model, marked};
 ghost use Rattle.ways.specs.Shown.{AllShown};
 ghost use Rattle.join.specs.Joins.{Joins, cost};
-ghost use Rattle.join.specs.Prices.{town_in, start_in, reached_in, Priced};
+ghost use Rattle.join.specs.Prices.{town_in, start_in, reached_in, Priced, Bounded};
 ghost use Rattle.join.specs.First.{Leads, Rooted, Begun};
 
 use crate::prices::Prices;
@@ -55,7 +55,8 @@ impl Prices {
     ) -> Result<(), AllocError>
         requires rooted { Rooted problem.now (marked home.now) ways.now }
         requires begun { (Begun problem.now self.old u) × (u < 100) }
-        ensures { OnOk result (Begun problem.now self.new (u + 1)) }
+        ensures begun { OnOk result (Begun problem.now self.new (u + 1)) }
+        ensures bounded { OnOk result (Bounded self.old → Bounded self.new) }
     {
         let drives = set_for(problem, home, ways, u);
         let streets = Weighted {
@@ -76,7 +77,8 @@ impl Prices {
         heap: Global,
     ) -> Result<Prices, AllocError>
         requires { Rooted problem.now (marked home.now) ways.now }
-        ensures { IfOk result (λ q. Priced problem.now q) }
+        ensures priced { IfOk result (λ q. Priced problem.now q) }
+        ensures bounded { IfOk result Bounded }
     {
         let mut prices = Prices {
             extra: Vec::new(heap),

@@ -58,7 +58,7 @@ impl Component {
     }
 
     // Comes to all that can be come to from a crossing over allowed streets.
-    pub(crate) fn reach(&mut self, town: &Town, allowed: &[bool; 300], from: usize)
+    pub(crate) fn search(&mut self, town: &Town, allowed: &[bool; 300], from: usize)
         requires rows { length self.old.path.items ≡ 100 }
         requires below { from < 100 }
         ensures grown { Grown (model town.now) (marked allowed.now) self.new }

@@ -1,7 +1,7 @@
 // Passes until one shows that all prices are least.
 ghost use Rattle.std.specs.Prelude.{◌≡◌, ◌<◌, length, IfOk, OnOk};
 ghost use Rattle.road.specs.Model.{marked};
-ghost use Rattle.join.specs.Prices.{town_in, costs_in, start_in, reached_in, price_in, Priced, all_prices};
+ghost use Rattle.join.specs.Prices.{town_in, costs_in, start_in, reached_in, price_in, EvenCosts, Priced, Bounded, all_prices};
 ghost use Rattle.join.specs.Potentials.{Cheaper};
 ghost use Rattle.join.specs.Passes.{ShowsLeast};
 
@@ -20,6 +20,7 @@ impl Prices {
         requires priced { Priced problem.now self.old }
         requires cheaper { Cheaper (town_in problem.now) (start_in problem.now) (reached_in problem.now) (costs_in problem.now) (price_in self.old) found.crossing (marked found.drives) }
         ensures priced { Priced problem.now self.new }
+        ensures bounded { Bounded self.old → Bounded self.new }
         ensures lower { all_prices self.new < all_prices self.old }
     {
         let streets = Weighted {
@@ -40,6 +41,8 @@ impl Prices {
         heap: Global,
     ) -> Result<Vec<Stage>, AllocError>
         requires priced { Priced problem.now self.old }
+        requires even { EvenCosts problem.now }
+        requires bounded { Bounded self.old }
         requires rows { length component.old.path.items ≡ 100 }
         ensures priced { OnOk result (Priced problem.now self.new) }
         ensures shown { IfOk result (λ stages. ShowsLeast problem.now self.new stages.items) }

@@ -1,6 +1,6 @@
 // A pass: turns are taken from the costs and the prices on, until a set is cheaper or no potential is left.
 ghost use Rattle.std.specs.Prelude.{◌≡◌, [], length, IfOk, OnOk};
-ghost use Rattle.join.specs.Prices.{Priced, AllNear};
+ghost use Rattle.join.specs.Prices.{EvenCosts, Priced, Bounded, AllNear};
 ghost use Rattle.join.specs.Turns.{Pass};
 ghost use Rattle.join.specs.Passes.{After, Run, Ends, FindsOut};
 
@@ -41,6 +41,8 @@ impl Prices {
     // The level at which a pass begins.
     fn level(&self, problem: &Problem) -> Level
         requires priced { Priced problem.now self.now }
+        requires even { EvenCosts problem.now }
+        requires bounded { Bounded self.now }
         requires near { AllNear problem.now self.now problem.now.town.now.count }
         ensures pass { Pass problem.now self.now result }
         ensures after { After problem.now self.now [] 0 result }
@@ -60,6 +62,8 @@ impl Prices {
         heap: Global,
     ) -> Result<Finding, AllocError>
         requires priced { Priced problem.now self.now }
+        requires even { EvenCosts problem.now }
+        requires bounded { Bounded self.now }
         requires near { AllNear problem.now self.now problem.now.town.now.count }
         requires rows { length component.old.path.items ≡ 100 }
         ensures rows { OnOk result (length component.new.path.items ≡ 100) }

@@ -1,7 +1,7 @@
 // Prices made lower along the streets, until no street makes one lower.
 ghost use Rattle.std.specs.Prelude.{◌≡◌, ◌<◌, ◌≤◌, length};
 ghost use Rattle.road.specs.Model.{marked};
-ghost use Rattle.join.specs.Prices.{extra_in, Priced, Lowered, Near, AllNear, all_prices};
+ghost use Rattle.join.specs.Prices.{extra_in, Priced, Bounded, Lowered, Near, AllNear, all_prices};
 
 use crate::cuts::end;
 use crate::prices::Prices;
@@ -24,6 +24,7 @@ impl Prices {
         requires priced { Priced problem.now self.old }
         requires below { k < problem.now.town.now.count }
         ensures priced { Priced problem.now self.new }
+        ensures bounded { Bounded self.old → Bounded self.new }
         ensures lowered { Lowered self.old self.new result (Near problem.now self.old k back) }
     {
         let x = end(problem.town, k, back);
@@ -45,6 +46,7 @@ impl Prices {
     fn sweep(&mut self, problem: &Problem) -> bool
         requires { Priced problem.now self.old }
         ensures priced { Priced problem.now self.new }
+        ensures bounded { Bounded self.old → Bounded self.new }
         ensures lowered { Lowered self.old self.new result (AllNear problem.now self.new problem.now.town.now.count) }
     {
         let mut any = false;
@@ -60,6 +62,7 @@ impl Prices {
     pub(crate) fn relax(&mut self, problem: &Problem)
         requires { Priced problem.now self.old }
         ensures priced { Priced problem.now self.new }
+        ensures bounded { Bounded self.old → Bounded self.new }
         ensures near { AllNear problem.now self.new problem.now.town.now.count }
         ensures lower { all_prices self.new ≤ all_prices self.old }
     {

@@ -1,12 +1,10 @@
-// The charge of a stage taken off lengths and potentials, and put back.
+// The charge of a stage put back on lengths and potentials.
 ghost use Rattle.std.specs.Prelude.{◌≡◌, ℕ, ◌+◌, ◌<◌, ◌≤◌, true, false, not, ◌&&◌, pos};
 ghost use Rattle.road.specs.Counts.{size, cut as cuts};
 ghost use Rattle.road.specs.Model.{marked};
-ghost use Rattle.join.specs.Joins.{shorter};
 ghost use Rattle.join.specs.Amounts.{amount, number, Whole, Moves, shifted};
 ghost use Rattle.join.specs.Weights.{ground, side_of};
 ghost use Rattle.join.specs.Prices.{town_in, reached_in};
-ghost use Rattle.join.specs.Potentials.{lower};
 ghost use Rattle.join.specs.Turns.{lengths_at, potential_at, Filled};
 ghost use Rattle.join.specs.Passes.{longer, higher};
 
@@ -59,19 +57,6 @@ impl Level {
         };
         shift_streets(&mut self.lengths, &cut, by);
         shift_crossings(&mut self.potential, problem.reached, marks, by);
-    }
-
-    // Takes the charge of a stage off the streets that its class cuts, and off the crossings outside.
-    pub(crate) fn charge(&mut self, problem: &Problem, stage: &Stage)
-        requires filled { Filled self.old }
-        requires whole { stage.now.charge ≡ pos (amount stage.now.charge) }
-        requires streets { (k : ℕ) → k < size (town_in problem.now) → cuts (town_in problem.now) (marked stage.now.marks) k ≡ true → amount stage.now.charge ≤ lengths_at self.old k }
-        requires crossings { (u : ℕ) → reached_in problem.now u ≡ true → marked stage.now.marks u ≡ false → amount stage.now.charge ≤ potential_at self.old u }
-        ensures filled { Filled self.new }
-        ensures streets { lengths_at self.new ≡ shorter (town_in problem.now) (marked stage.now.marks) (amount stage.now.charge) (lengths_at self.old) }
-        ensures crossings { potential_at self.new ≡ lower (reached_in problem.now) (marked stage.now.marks) (amount stage.now.charge) (potential_at self.old) }
-    {
-        self.shift(problem, &stage.marks, -stage.charge);
     }
 
     // Puts the charge of a stage back on the streets that its class cuts, and on the crossings outside.

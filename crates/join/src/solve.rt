@@ -2,7 +2,7 @@
 ghost use Rattle.std.specs.Prelude.{◌≡◌, ℕ, ◌<◌, true, IfOk, Some};
 ghost use Rattle.ways.specs.declared.way.Way.{Way as Path};
 ghost use Rattle.ways.specs.Shown.{to, AllShown};
-ghost use Rattle.join.specs.Prices.{town_in, reached_in, Priced};
+ghost use Rattle.join.specs.Prices.{town_in, reached_in, EvenCosts, Priced};
 ghost use Rattle.join.specs.Passes.{ShowsLeast};
 
 use crate::component::Component;
@@ -26,6 +26,7 @@ pub(crate) struct Solved {
 impl Problem<'_, '_> {
     // Finds least prices, with the ways from the depot.
     pub(crate) fn solve(&self, ways: &Ways, heap: Global) -> Result<Solved, AllocError>
+        requires even { EvenCosts self.now }
         requires shown { AllShown (town_in self.now) self.now.town.now.depot ways.now }
         requires found { (u : ℕ) → reached_in self.now u ≡ true → (u < self.now.town.now.crossings) × ((way : Path) × (to ways.now u ≡ Some way)) }
         ensures priced { IfOk result (λ s. Priced self.now s.prices) }

@@ -13,10 +13,8 @@ invariant_of-problem c =
     let d = c.double_lengths-costs.ensures in
     let r = c.reached_by-reached.ensures in record {
       places = r.long;
-      streets = d.long;
       whole = d.whole;
       most = λ k. omega (arith, ap (λ f. f k) d.is, double_most s.town k);
-      even = λ k. omega (arith, ap (λ f. f k) d.is);
       home = r.is s.town.depot ∙ reached_start (model s.town) s.town.depot;
       ones = λ k h. r.is _ ∙ s.reached k h;
       twos = λ k h. r.is _ ∙ come_two s k h;
@@ -26,7 +24,9 @@ pub solve-requires : goal.solve-requires
 solve-requires c =
     let t = c.args.town.now.town in
     let w = c.in_ok-ways.ensures in
+    let d = c.double_lengths-costs.ensures in
     record {
+      even = record { streets = d.long; even = λ k. omega (arith, ap (λ f. f k) d.is) };
       shown = w;
       found = λ u h.
           let y = sym (c.reached_by-reached.ensures.is u) ∙ h in

@@ -7,7 +7,6 @@ use Rattle.join.specs.Joins.{◌⊞◌, single}
 use Rattle.join.specs.Weights.{town_of, lengths_of}
 use Rattle.join.specs.Classes.{label_in}
 use Rattle.join.proofs.StreetSets.{ends_below}
-use Rattle.join.proofs.Labels.{merge_labels}
 use Rattle.join.proofs.Progress.{progress_merge}
 use Rattle.join.proofs.Uniting.{link_is, absorbed_classed, absorbed_kept, absorbed_both}
 use Rattle.join.proofs.partition.Classes.merge_over.Goals as goal
@@ -27,11 +26,10 @@ returns c =
     let r = link_is (town_of w) (lengths_of w) q k x y (marked c.flip-there.result) link c.requires.classed (omega (arith, size_model w.town.now, c.requires.below)) z c.end-x.ensures.is c.end-y.ensures.is hx hy
     (c.flip-there.ensures ∙ ap (λ J. J ⊞ single k) c.way_to.ensures) (c.xor-link.ensures ∙ ap (λ J. marked c.flip-there.result ⊞ J) c.way_to-2.ensures) in
     let apart : label_in q x ≡ label_in q y → ⊥ = λ e. c.if-from-to.false (sym e) in
-    let labels = merge_labels 100 (label_in q) (label_in d) c.requires.classed.labels x y hx hy apart c.absorb.ensures.labels in
     record {
-      classed = absorbed_classed (label_in q y) (label_in q x) link q d c.absorb.ensures (town_of w) (lengths_of w) c.requires.classed labels r.0 r.1;
+      classed = absorbed_classed (label_in q y) (label_in q x) link q d c.absorb.ensures (town_of w) (lengths_of w) c.requires.classed r.0 r.1;
       kept = absorbed_kept (label_in q y) (label_in q x) link q d c.absorb.ensures;
-      progress = progress_merge (town_of w) (ends_below w.town.now) q d x y link c.requires.classed.labels hx hy apart c.absorb.ensures (lengths_of w);
+      progress = progress_merge (town_of w) (ends_below w.town.now) q d x y link hx hy apart c.absorb.ensures (lengths_of w);
       merged = λ _.
           ap (label_in d) (sym c.end-x.ensures.is) ∙ absorbed_both (label_in q y) (label_in q x) link q d c.absorb.ensures x y hx hy refl refl
           ∙ ap (label_in d) c.end-y.ensures.is;

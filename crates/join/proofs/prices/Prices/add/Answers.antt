@@ -4,7 +4,7 @@ use Rattle.std.proofs.lemmas.Int.{ints}
 use Rattle.road.specs.Model.{marked}
 use Rattle.join.specs.Joins.{cost}
 use Rattle.join.specs.Prices.{town_in, costs_in}
-use Rattle.join.proofs.Starting.{begun_more}
+use Rattle.join.proofs.Starting.{begun_more, bounded_more}
 use Rattle.join.proofs.prices.Prices.add.Goals as goal
 
 pub returns : goal.returns
@@ -14,4 +14,7 @@ returns c =
     let z = to_z w64 (of_z w64 c.cost-cost.result) in
     let f = c.cost-cost.ensures.is in
     let e : z ≡ pos (cost (town_in p) (costs_in p) (marked J)) = omega (arith, ints, f) in
-    begun_more p c.args.self.now _ c.args.u c.requires.begun.0 c.requires.begun.1 J z c.in_ok-push.ensures.items refl e c.set_for-drives.ensures
+    record {
+      begun = begun_more p c.args.self.now _ c.args.u c.requires.begun.0 c.requires.begun.1 J z c.in_ok-push.ensures.items refl e c.set_for-drives.ensures;
+      bounded = bounded_more p c.args.self.now _ c.args.u c.requires.begun.0 c.requires.begun.1 J z c.in_ok-push.ensures.items refl e;
+    }

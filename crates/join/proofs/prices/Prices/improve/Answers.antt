@@ -5,7 +5,7 @@ use Rattle.road.specs.Model.{marked}
 use Rattle.join.specs.Joins.{cost}
 use Rattle.join.specs.Prices.{town_in, costs_in}
 use Rattle.join.proofs.StreetSets.{marked_below}
-use Rattle.join.proofs.Relaxing.{priced_set, prices_set}
+use Rattle.join.proofs.Relaxing.{priced_set, bounded_set, prices_set}
 use Rattle.join.proofs.prices.Prices.improve.Goals as goal
 
 pub index_mut-requires : goal.index_mut-requires
@@ -30,5 +30,6 @@ returns c =
     let h : u < 100 = omega (arith, marked_below p.reached.now u c.requires.cheaper.met, p.places) in
     record {
       priced = priced_set p q c.requires.priced u J z n e h c.requires.cheaper.joins refl;
+      bounded = bounded_set p q c.requires.priced u J z n e h refl;
       lower = prices_set p q c.requires.priced u J z n e h c.requires.cheaper.cheap;
     }

@@ -9,7 +9,7 @@ returns c =
     let q = c.args.self.now in
     let d = c.requires.priced in
     record {
-      pass = begin_pass p q d c.requires.near _
-          (record { streets = p.streets; places = d.places; whole = p.whole; most = p.most; whole_potential = d.whole; high = d.high }) refl refl;
+      pass = begin_pass p c.requires.even q d c.requires.near _
+          (record { streets = c.requires.even.streets; places = d.places; whole = p.whole; most = p.most; whole_potential = d.whole; high = c.requires.bounded.most }) refl refl;
       after = begin_after p q _ refl refl;
     }

@@ -20,7 +20,7 @@ returns-then-cost-self c =
     let lt : cost (town_in p) (costs_in p) (extra_in q x ⊞ single k) < price_in q y = omega (arith, ints, f, c.if-cost-self.true, c.requires.priced.whole y) in
     let r = over_set p q c.requires.priced k c.args.back c.requires.below x y c.end-x.ensures.is c.end-y.ensures.is _ refl
     c.flip.result z c.end-y.ensures.below (c.flip.ensures ∙ ap (λ J. J ⊞ single k) c.extra_for-then-cost-self.ensures) e lt in
-    record { priced = r.0; lowered = record { less = λ _. r.1; same = λ f. absurd (both_ways true f refl) } }
+    record { priced = r.0; bounded = r.1; lowered = record { less = λ _. r.2; same = λ f. absurd (both_ways true f refl) } }
 
 pub returns : goal.returns
 returns c =
@@ -32,4 +32,4 @@ returns c =
     let f = c.cost_flipped-cost.ensures ∙ ap (λ J. pos (cost (town_in p) (costs_in p) (J ⊞ single k))) c.extra_for.ensures in
     let le : price_in q y ≤ cost (town_in p) (costs_in p) (extra_in q x ⊞ single k) = omega (arith, ints, f, c.if-cost-self.false, c.requires.priced.whole y) in
     let n = over_near p q c.requires.priced k c.args.back c.requires.below x y c.end-x.ensures.is c.end-y.ensures.is _ refl le in
-    record { priced = c.requires.priced; lowered = record { less = λ f. absurd (both_ways false refl f); same = λ _. (refl, n) } }
+    record { priced = c.requires.priced; bounded = λ h. h; lowered = record { less = λ f. absurd (both_ways false refl f); same = λ _. (refl, n) } }

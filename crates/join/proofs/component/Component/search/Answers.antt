@@ -1,8 +1,8 @@
--- The steps of the proof of `reach` that are not found by search.
+-- The steps of the proof of `search` that are not found by search.
 use Rattle.std.proofs.Common.{refl}
 use Rattle.road.specs.Model.{model, marked}
 use Rattle.join.proofs.Growing.{grown_start}
-use Rattle.join.proofs.component.Component.reach.Goals as goal
+use Rattle.join.proofs.component.Component.search.Goals as goal
 
 pub loop-init : goal.loop-init
 loop-init c = (

@@ -1,9 +1,9 @@
--- What the loop of `reach` keeps.
+-- What the loop of `search` keeps.
 use Rattle.std.proofs.Common.{◌≡◌}
 use Rattle.road.specs.Model.{model, marked}
 use Rattle.road.specs.Growth.{unmarked}
 use Rattle.join.specs.Components.{Grown}
-use Rattle.join.proofs.component.Component.reach.Given as goal
+use Rattle.join.proofs.component.Component.search.Given as goal
 
 abbrev pub invariant-loop : goal.invariant-loop
 invariant-loop l = Grown (model l.town) (marked l.allowed) l.self × (l.self.from ≡ l.from)
