@@ -1,5 +1,5 @@
 -- What is turned away, by the number and the place of its refusal. Assumes nothing: these are definitions.
-use Rattle.std.specs.Prelude.{ℕ, ◌*◌, ◌/◌, ◌%◌, ◌&&◌, nat_lt, List, length, Option, Result, ◌==◌, nat_le, nat_lt, slice_index}
+use Rattle.std.specs.Prelude.{ℕ, ◌*◌, ◌/◌, ◌%◌, ◌&&◌, nat_lt, List, length, Option, Result, ◌==◌, nat_le, slice_index}
 use Rattle.road.specs.declared.refusal.Refusal.{Refusal}
 use Rattle.road.specs.declared.refusal.Refusal.TheVariants.{Crossings, Numbers, OutOfRange, Depot, Unreached, Room, NoStreet, Parts}
 use Rattle.road.specs.Roads.{Town, street}

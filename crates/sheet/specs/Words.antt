@@ -1,5 +1,5 @@
 -- The word on a round and a sheet. Assumes nothing: these are definitions.
-use Rattle.std.specs.Prelude.{ℕ, ◌+◌, ◌*◌, ◌/◌, ◌%◌, leb, List, [], ◌∷◌, length, Some, None, Option, Result, ◌==◌, nat_eq, nat_le, slice_index, slice_index_or}
+use Rattle.std.specs.Prelude.{ℕ, ◌+◌, ◌*◌, ◌/◌, ◌%◌, List, [], ◌∷◌, length, Some, None, Option, Result, ◌==◌, nat_le, slice_index, slice_index_or}
 use Rattle.road.specs.declared.fault.Fault.{Fault}
 use Rattle.road.specs.declared.fault.Fault.TheVariants.{Leg as AtLeg, Home, Street as LeftOut}
 use Rattle.road.specs.declared.leg.Leg.{Leg}
@@ -17,11 +17,11 @@ use Rattle.sheet.specs.Sheet.{Part, no_part, ways_out, load, weights}
 
 -- the first part out of which an even number of streets lead
 abbrev pub part_fault : Town → List Part → Option SheetFault
-part_fault t ps = unless_all (length ps) (λ i. nat_eq (ways_out (slice_index_or ps i no_part).marks t.streets % 2) 1) AtPart
+part_fault t ps = unless_all (length ps) (λ i. ways_out (slice_index_or ps i no_part).marks t.streets % 2 == 1) AtPart
 
 -- the first street that bears more than twice its length
 abbrev pub load_fault : Town → List Part → Option SheetFault
-load_fault t ps = unless_all (size t) (λ k. leb (load ps (street t k)) (2 * (street t k).long)) AtStreet
+load_fault t ps = unless_all (size t) (λ k. nat_le (load ps (street t k)) (2 * (street t k).long)) AtStreet
 
 -- what is wrong with parts as a sheet
 abbrev pub sheet_fault : Town → List Part → Option SheetFault
@@ -58,7 +58,7 @@ count_refusal n xs = unless (nat_le (length xs / (1 + n)) 400) (8, length xs / (
 
 -- or a weight above 10,000,000, at the first such part
 abbrev pub weight_refusal : ℕ → List ℕ → Option (ℕ × ℕ)
-weight_refusal n xs = unless_all (length xs / (1 + n)) (λ i. leb (slice_index xs (i * (1 + n))) 10000000) (λ i. (8, i))
+weight_refusal n xs = unless_all (length xs / (1 + n)) (λ i. nat_le (slice_index xs (i * (1 + n))) 10000000) (λ i. (8, i))
 
 abbrev pub parts_refusal : ℕ → List ℕ → Option (ℕ × ℕ)
 parts_refusal n xs = whole_refusal n xs then (count_refusal n xs then weight_refusal n xs)
