@@ -45,6 +45,7 @@ impl Prices {
         requires bounded { Bounded self.old }
         requires rows { length component.old.path.items ≡ 100 }
         ensures priced { OnOk result (Priced problem.now self.new) }
+        ensures bounded { OnOk result (Bounded self.new) }
         ensures shown { IfOk result (λ stages. ShowsLeast problem.now self.new stages.items) }
     {
         loop {

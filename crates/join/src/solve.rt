@@ -2,7 +2,7 @@
 ghost use Rattle.std.specs.Prelude.{◌≡◌, ℕ, ◌<◌, true, IfOk, Some};
 ghost use Rattle.ways.specs.declared.way.Way.{Way as Path};
 ghost use Rattle.ways.specs.Shown.{to, AllShown};
-ghost use Rattle.join.specs.Prices.{town_in, reached_in, EvenCosts, Priced};
+ghost use Rattle.join.specs.Prices.{town_in, reached_in, EvenCosts, Priced, Bounded};
 ghost use Rattle.join.specs.Passes.{ShowsLeast};
 
 use crate::component::Component;
@@ -30,6 +30,7 @@ impl Problem<'_, '_> {
         requires shown { AllShown (town_in self.now) self.now.town.now.depot ways.now }
         requires found { (u : ℕ) → reached_in self.now u ≡ true → (u < self.now.town.now.crossings) × ((way : Path) × (to ways.now u ≡ Some way)) }
         ensures priced { IfOk result (λ s. Priced self.now s.prices) }
+        ensures bounded { IfOk result (λ s. Bounded s.prices) }
         ensures shown { IfOk result (λ s. ShowsLeast self.now s.prices s.stages.items) }
     {
         let home = pair_off(self.town, self.required, heap)?;
