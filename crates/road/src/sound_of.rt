@@ -2,8 +2,9 @@
 ghost use Rattle.std.specs.Prelude.{◌≡◌, ℕ, ◌<◌, true};
 ghost use Rattle.road.specs.Counts.{one, size};
 ghost use Rattle.road.specs.Reach.{reached};
-ghost use Rattle.road.specs.Refusals.{Answers, reach_refusal};
+ghost use Rattle.road.specs.Refusals.{Answers, reach_refusal, plan_refusal};
 ghost use Rattle.road.specs.Model.{model};
+ghost use Rattle.road.specs.Numbers.{town_in};
 
 use crate::{Refusal, SoundTown, Town};
 
@@ -29,5 +30,12 @@ impl SoundTown {
     {
         town.check_reach()?;
         Ok(SoundTown { town })
+    }
+
+    // The town of these numbers, if it is within the limits and every street can be come to; else the first refusal of 1 to 5 that applies.
+    pub fn take(crossings: u64, numbers: &[u64], depot: u64) -> Result<SoundTown, Refusal>
+        ensures { Answers (plan_refusal crossings numbers.now depot) (λ s. (model s.town ≡ town_in crossings numbers.now) × (s.town.depot ≡ depot)) result }
+    {
+        SoundTown::new(Town::take(crossings, numbers, depot)?)
     }
 }

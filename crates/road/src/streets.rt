@@ -7,6 +7,13 @@ ghost use Rattle.road.specs.Model.{model};
 use crate::{Street, Town};
 
 impl Town {
+    // The streets, by their numbers.
+    pub fn streets(&self) -> &[Street]
+        ensures { result.now ≡ (model self.now).streets }
+    {
+        &self.streets[..self.count]
+    }
+
     // Street k; past the last a street of no length at crossing 0.
     pub fn street(&self, k: usize) -> Street
         ensures is { result ≡ street (model self.now) k }
