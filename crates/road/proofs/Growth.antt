@@ -1,7 +1,7 @@
 -- Marks that grow over a street. Assumes nothing.
-use Rattle.std.proofs.Common.{◌≡◌, ℕ, ◌<◌, Bool, true, false, not, List, length, get_or, set, replicate, sym, refl, ap, ◌∙◌, ⊎_elim, arith}
-use Rattle.std.proofs.lemmas.List.{length-set, length-replicate, get_or-replicate, get_or_past, get_or-set_same, get_or-set_other}
-use Rattle.std.proofs.lemmas.Bool.{cases_eq, cases_lt, both_ways}
+use Rattle.std.proofs.Common.{◌≡◌, ℕ, ◌<◌, Bool, true, false, not, eqb, List, length, set, sym, refl, ap, ◌∙◌, ⊎_elim, arith}
+use Rattle.std.proofs.lemmas.List.{length-set, get_or_past, get_or-set_same, get_or-set_other}
+use Rattle.std.proofs.lemmas.Bool.{cases_eq, cases_lt, both_ways, eqb-true, eq-eqb}
 use Rattle.road.specs.Roads.{Street, Town, street}
 use Rattle.road.specs.Counts.{◌⊕◌, bit, size, one, two, Set, cut, Side, forth, back}
 use Rattle.road.specs.Reach.{reached}
@@ -50,12 +50,9 @@ grown_more t s k x y ms g h side inside outside below = record {
     there : reached t s y ≡ true
     there = sym (across t (reached t s) k x y side (reached_closed t s k h)) ∙ g.come x inside
 
-pub grown_start : (t : Town) (s : ℕ) → s < 100 → Grown t s (set (replicate 100 false) s true)
-grown_start t s h = record {
-  places = length-set (replicate 100 false) s true ∙ length-replicate 100 false;
-  start = get_or-set_same (replicate 100 false) s true false (omega (arith, length-replicate 100 false));
-  come = λ v m. ⊎_elim (λ e. ap (reached t s) e ∙ reached_start t s) (λ ne. absurd (both_ways _ (get_or-set_other (replicate 100 false) s v true false ne ∙ none v) m)) (cases_eq v s);
+pub grown_start : (t : Town) (s : ℕ) (ms : List Bool) → s < 100 → length ms ≡ 100 → ((v : ℕ) → v < 100 → marked ms v ≡ eqb v s) → Grown t s ms
+grown_start t s ms h long is = record {
+  places = long;
+  start = is s h ∙ eq-eqb s s refl;
+  come = λ v m. ⊎_elim (λ lt. ap (reached t s) (eqb-true v s (sym (is v lt) ∙ m)) ∙ reached_start t s) (λ ge. absurd (both_ways _ (get_or_past ms v false (omega arith)) m)) (cases_lt v 100);
 }
-  where
-    none : (v : ℕ) → get_or (replicate 100 false) v false ≡ false
-    none v = ⊎_elim (get_or-replicate 100 v false false) (λ ge. get_or_past (replicate 100 false) v false (omega (arith, length-replicate 100 false))) (cases_lt v 100)

@@ -5,6 +5,7 @@ pub mod Find
 pub mod Drives
 pub mod Cuts
 pub mod Legs
+pub mod Lengths
 pub mod Reached
 pub mod Faults
 pub mod Models

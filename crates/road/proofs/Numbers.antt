@@ -1,25 +1,10 @@
 -- Streets as three numbers each. Assumes nothing.
-use Rattle.std.proofs.Common.{◌≡◌, ℕ, zero, suc, ◌+◌, ◌*◌, ◌/◌, ◌<◌, ◌≤◌, List, length, get_or, take, drop, sym, refl, ap, ◌∙◌, arith}
-use Rattle.std.proofs.lemmas.List.{get_or-drop, ext_get_or, get_or-take, length-take-le}
+use Rattle.std.proofs.Common.{◌≡◌, ℕ, zero, suc, ◌/◌, ◌<◌, ◌≤◌, List, length, get_or, take, drop, sym, refl, map, [], ◌∷◌, ap, ap₂, ◌∙◌, arith}
+use Rattle.std.proofs.lemmas.List.{get_or_past, get_or-map, ext_get_or, get_or-take, length-take-le}
+use Rattle.std.specs.Simd.{first_chunks}
 use Rattle.road.specs.Roads.{Street, street, no_street}
 use Rattle.road.specs.Counts.{size}
-use Rattle.road.specs.Numbers.{streets_in, town_in}
-
--- the street that begins at a place of the numbers
-abbrev pub at : List ℕ → ℕ → Street
-at xs i = record { one = get_or xs i 0; two = get_or xs (i + 1) 0; long = get_or xs (i + 2) 0 }
-
-at_drop : (xs : List ℕ) (i j : ℕ) → 3 + i ≡ j → at (drop 3 xs) i ≡ at xs j
-at_drop xs i j e = λ d. record { one = read i j e d; two = read (i + 1) (j + 1) (omega arith) d; long = read (i + 2) (j + 2) (omega arith) d }
-  where
-    read : (i j : ℕ) → 3 + i ≡ j → get_or (drop 3 xs) i 0 ≡ get_or xs j 0
-    read i j e = get_or-drop 3 xs i 0 ∙ ap (λ z. get_or xs z 0) e
-
-streets_at : (n : ℕ) (xs : List ℕ) (k : ℕ) → k < n → get_or (streets_in n xs) k no_street ≡ at xs (3 * k)
-unfolding streets_in
-streets_at zero xs k h = absurd (omega arith)
-streets_at (suc n) xs zero h = refl
-streets_at (suc n) xs (suc k) h = streets_at n (drop 3 xs) k (omega arith) ∙ at_drop xs (3 * k) (3 * suc k) (omega arith)
+use Rattle.road.specs.Numbers.{street_of, streets_in, town_in}
 
 pub length_streets : (n : ℕ) (xs : List ℕ) → length (streets_in n xs) ≡ n
 unfolding streets_in
@@ -30,10 +15,25 @@ length_streets (suc n) xs = ap suc (length_streets n (drop 3 xs))
 pub size_in : (n : ℕ) (xs : List ℕ) → size (town_in n xs) ≡ length xs / 3
 size_in n xs = length_streets (length xs / 3) xs
 
--- street k of the numbers
-pub street_in : (n : ℕ) (xs : List ℕ) (k : ℕ) → k < length xs / 3 → street (town_in n xs) k ≡ at xs (3 * k)
+-- past the last street of the numbers
+pub street_in_past : (n : ℕ) (xs : List ℕ) (k : ℕ) → length xs / 3 ≤ k → street (town_in n xs) k ≡ no_street
 unfolding street
-street_in n xs k h = streets_at (length xs / 3) xs k h
+street_in_past n xs k h = get_or_past (streets_in (length xs / 3) xs) k no_street (omega (arith, length_streets (length xs / 3) xs))
+
+-- three numbers at a time
+chunk_street : (xs : List ℕ) → street_of (take 3 xs) ≡ street_of xs
+chunk_street xs = λ d. record { one = get_or-take 3 xs 0 0 (omega arith) d; two = get_or-take 3 xs 1 0 (omega arith) d; long = get_or-take 3 xs 2 0 (omega arith) d }
+
+pub chunk_streets : (m : ℕ) (xs : List ℕ) → map street_of (first_chunks 3 m xs) ≡ streets_in m xs
+unfolding streets_in
+chunk_streets zero xs = refl
+chunk_streets (suc m) xs = ap₂ (λ s ss. s ∷ ss) (chunk_street xs) (chunk_streets m (drop 3 xs))
+
+pub street_chunk : (n : ℕ) (xs : List ℕ) (yss : List (List ℕ)) → yss ≡ first_chunks 3 (length xs / 3) xs → length yss ≡ length xs / 3 → (k : ℕ) → k < length xs / 3 →
+    street (town_in n xs) k ≡ street_of (get_or yss k [])
+unfolding street
+street_chunk n xs yss e l k h =
+    ap (λ ss. get_or ss k no_street) (sym (chunk_streets (length xs / 3) xs) ∙ ap (map street_of) (sym e)) ∙ get_or-map street_of yss k [] no_street (omega arith)
 
 -- streets that were read one by one are the streets of the numbers
 pub streets_read : (n : ℕ) (xs : List ℕ) (ss : List Street) → length xs / 3 ≤ length ss → ((k : ℕ) → k < length xs / 3 → get_or ss k no_street ≡ street (town_in n xs) k) →

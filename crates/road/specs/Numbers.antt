@@ -3,9 +3,12 @@ use Rattle.std.specs.Prelude.{ℕ, zero, suc, ◌/◌, ◌%◌, List, [], ◌∷
 use Rattle.road.specs.Roads.{Street, Town, Leg}
 
 -- three numbers a street: its ends and its length
+abbrev pub street_of : List ℕ → Street
+street_of xs = record { one = slice_index xs 0; two = slice_index xs 1; long = slice_index xs 2 }
+
 unfoldable pub streets_in : ℕ → List ℕ → List Street
 streets_in zero xs = []
-streets_in (suc n) xs = record { one = slice_index xs 0; two = slice_index xs 1; long = slice_index xs 2 } ∷ streets_in n (drop 3 xs)
+streets_in (suc n) xs = street_of xs ∷ streets_in n (drop 3 xs)
 
 abbrev pub town_in : ℕ → List ℕ → Town
 town_in crossings xs = record { crossings = crossings; streets = streets_in (length xs / 3) xs }

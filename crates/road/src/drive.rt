@@ -7,7 +7,7 @@ ghost use Rattle.road.specs.Refusals.{Answers, legs_refusal};
 ghost use Rattle.road.specs.Faults.{begins as begins_at, leg_fault, street_fault, fault, Finds, Driven as Drove};
 ghost use Rattle.road.specs.Model.{model, marked};
 
-use crate::{Fault, Leg, Refusal, Town};
+use crate::{Fault, Leg, Refusal, Street, Town};
 
 // Where a drive ended, and the streets that it drove.
 #[derive(Drop)]
@@ -16,38 +16,23 @@ struct Driven {
     marks: [bool; 300],
 }
 
-impl Leg {
-    // The leg of a number: twice the street's, and one more if it is driven back.
-    fn of(number: u64) -> Leg
-        ensures { result ≡ leg_in number }
-    {
-        Leg {
-            by: (number / 2) as usize,
-            back: number % 2 == 1,
-        }
-    }
-}
-
-fn no_marks() -> [bool; 300]
-    ensures { result ≡ replicate 300 false }
-{
-    [false; 300]
-}
-
-fn all_marks() -> [bool; 300]
-    ensures { result ≡ replicate 300 true }
-{
-    [true; 300]
-}
-
 impl Town {
+    // The crossings at which a leg begins and ends.
+    fn ends_of(&self, leg: Leg) -> (usize, usize)
+        ensures begin { result.0 ≡ begin_of (model self.now) leg }
+        ensures end { result.1 ≡ end_of (model self.now) leg }
+        ensures below { (result.0 < self.now.crossings) × (result.1 < self.now.crossings) }
+    {
+        let Street { one, two, .. } = self.street(leg.by);
+        if leg.back { (two, one) } else { (one, two) }
+    }
+
     // The crossing at which a leg begins.
     pub fn begin_of(&self, leg: Leg) -> usize
         ensures is { result ≡ begin_of (model self.now) leg }
         ensures below { result < self.now.crossings }
     {
-        let street = self.street(leg.by);
-        if leg.back { street.two } else { street.one }
+        self.ends_of(leg).0
     }
 
     // Whether a leg is of a street and begins at a crossing.
@@ -62,8 +47,7 @@ impl Town {
         ensures is { result ≡ end_of (model self.now) leg }
         ensures below { result < self.now.crossings }
     {
-        let street = self.street(leg.by);
-        if leg.back { street.one } else { street.two }
+        self.ends_of(leg).1
     }
 
     // Drives the legs one after the other, up to the first that does not begin where the one before ended.
@@ -71,9 +55,9 @@ impl Town {
         ensures { Finds (leg_fault (model self.now) start (legs_in legs.now)) (λ d. Drove (model self.now) start (legs_in legs.now) d.at d.marks) result }
     {
         let mut at = start;
-        let mut marks = no_marks();
+        let mut marks = [false; 300];
         for (i, number) in legs.iter().enumerate() {
-            let leg = Leg::of(*number);
+            let leg = Leg::from(*number);
             if !self.begins(at, leg) {
                 return Err(Fault::Leg(i));
             }
@@ -87,12 +71,9 @@ impl Town {
     fn check_driven(&self, required: &[bool; 300], marks: &[bool; 300]) -> Result<(), Fault>
         ensures { Finds (street_fault (model self.now) (marked required.now) (marked marks.now)) (λ _. Unit {0}) result }
     {
-        for k in 0..self.count {
-            if required[k] && !marks[k] {
-                return Err(Fault::Street(k));
-            }
-        }
-        Ok(())
+        (0..self.count)
+            .find(|&k| required[k] && !marks[k])
+            .map_or(Ok(()), |k| Err(Fault::Street(k)))
     }
 
     // Whether the legs are a drive from start to end over each required street; else the first leg that does not begin where the one before
@@ -118,12 +99,9 @@ impl Town {
         ensures { Answers (legs_refusal (model self.now) legs.now) (λ _. Unit {0}) result }
     {
         let numbers = 2 * self.count as u64;
-        for (i, number) in legs.iter().enumerate() {
-            if *number >= numbers {
-                return Err(Refusal::NoStreet(i as u64));
-            }
-        }
-        Ok(())
+        legs.iter()
+            .position(|number| *number >= numbers)
+            .map_or(Ok(()), |i| Err(Refusal::NoStreet(i as u64)))
     }
 
     // The length of the legs together; a leg of no street has none. A list is shorter than 2^64 and a street than 2^17, so the sum fits.
@@ -131,17 +109,15 @@ impl Town {
         ensures is { result ≡ far (model self.now) (legs_in legs.now) }
         ensures most { result ≤ 100000 * length legs.now }
     {
-        let mut sum = 0u128;
-        for number in legs {
-            sum += u128::from(self.street(Leg::of(*number).by).long);
-        }
-        sum
+        legs.iter()
+            .map(|number| u128::from(self.street(Leg::from(*number).by).long))
+            .sum()
     }
 
     // Whether the legs are a round: a drive from the depot over every street and home.
     pub fn check_as_round(&self, legs: &[u64]) -> Result<(), Fault>
         ensures { Finds (fault (model self.now) self.now.depot self.now.depot all (legs_in legs.now)) (λ _. Unit {0}) result }
     {
-        self.check_drive(self.depot, self.depot, &all_marks(), legs)
+        self.check_drive(self.depot, self.depot, &[true; 300], legs)
     }
 }

@@ -3,106 +3,76 @@ ghost use Rattle.road.specs.Counts.{FarCounted};
 ghost use Rattle.road.specs.Laws.{CrossingsRefused, NumbersRefused, StreetRefused, DepotRefused, UnreachedRefused, LegRefused, Taken, LetThrough, SoundTowns, FaultLeg, FaultHome, FaultStreet, FaultNone, FaultRound};
 
 // The length of a drive is the sum over the streets of how often each is driven times its length.
-pub fn far_counted_stands() -> u8
+pub fn far_counted_stands()
     ensures { FarCounted }
-{
-    0
-}
+{}
 
 // Refusal 1 is given just if the number of crossings is not 1 to 100, at that number.
-pub fn crossings_refused_stands() -> u8
+pub fn crossings_refused_stands()
     ensures { CrossingsRefused }
-{
-    0
-}
+{}
 
 // Refusal 2 is given just if rule 1 is kept and the numbers are not three for each of at most 300 streets, at their length.
-pub fn numbers_refused_stands() -> u8
+pub fn numbers_refused_stands()
     ensures { NumbersRefused }
-{
-    0
-}
+{}
 
 // Refusal 3 is given just if rules 1 and 2 are kept, at the first street past the limits.
-pub fn street_refused_stands() -> u8
+pub fn street_refused_stands()
     ensures { StreetRefused }
-{
-    0
-}
+{}
 
 // Refusal 4 is given just if rules 1 to 3 are kept and the depot is no crossing, at the depot.
-pub fn depot_refused_stands() -> u8
+pub fn depot_refused_stands()
     ensures { DepotRefused }
-{
-    0
-}
+{}
 
 // Refusal 5 is given just if there is no drive from the depot to some street, at the first such street.
-pub fn unreached_refused_stands() -> u8
+pub fn unreached_refused_stands()
     ensures { UnreachedRefused }
-{
-    0
-}
+{}
 
 // Refusal 7 is given just if some leg is of no street, at the first such leg.
-pub fn leg_refused_stands() -> u8
+pub fn leg_refused_stands()
     ensures { LegRefused }
-{
-    0
-}
+{}
 
 // A town is taken just if it is within the limits.
-pub fn taken_stands() -> u8
+pub fn taken_stands()
     ensures { Taken }
-{
-    0
-}
+{}
 
 // A town is let through to the planner just if it is within the limits and sound.
-pub fn let_through_stands() -> u8
+pub fn let_through_stands()
     ensures { LetThrough }
-{
-    0
-}
+{}
 
 // Every value of the type SoundTown is a sound town.
-pub fn sound_towns_stands() -> u8
+pub fn sound_towns_stands()
     ensures { SoundTowns }
-{
-    0
-}
+{}
 
 // The fault is at leg i just if the legs before it are a drive to a crossing at which leg i does not begin.
-pub fn fault_leg_stands() -> u8
+pub fn fault_leg_stands()
     ensures { FaultLeg }
-{
-    0
-}
+{}
 
 // The fault is that the drive does not come home just if the legs are a drive that ends elsewhere.
-pub fn fault_home_stands() -> u8
+pub fn fault_home_stands()
     ensures { FaultHome }
-{
-    0
-}
+{}
 
 // The fault is at street k just if the legs are a drive home, k is left out, and no required street before it is.
-pub fn fault_street_stands() -> u8
+pub fn fault_street_stands()
     ensures { FaultStreet }
-{
-    0
-}
+{}
 
 // There is no fault just if the legs are a drive over each required street.
-pub fn fault_none_stands() -> u8
+pub fn fault_none_stands()
     ensures { FaultNone }
-{
-    0
-}
+{}
 
 // There is no fault from the depot over all streets just if the legs are a round.
-pub fn fault_round_stands() -> u8
+pub fn fault_round_stands()
     ensures { FaultRound }
-{
-    0
-}
+{}

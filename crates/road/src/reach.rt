@@ -7,15 +7,6 @@ ghost use Rattle.road.specs.Growth.{Grown, Closed, Tried};
 
 use crate::Town;
 
-fn only(v: usize) -> [bool; 100]
-    requires { v < 100 }
-    ensures { result ≡ slice_set (replicate 100 false) v true }
-{
-    let mut marks = [false; 100];
-    marks[v] = true;
-    marks
-}
-
 impl Town {
     // The end of street k that is not marked, where just one is.
     fn outer_end(&self, k: usize, marks: &[bool; 100]) -> usize
@@ -57,8 +48,7 @@ impl Town {
     {
         let mut more = false;
         for k in 0..self.count {
-            let here = self.grow_over(k, marks);
-            more = more || here;
+            more |= self.grow_over(k, marks);
         }
         more
     }
@@ -67,7 +57,7 @@ impl Town {
     pub(crate) fn come_to(&self) -> [bool; 100]
         ensures { (v : ℕ) → marked result v ≡ reached (model self.now) self.now.depot v }
     {
-        let mut marks = only(self.depot);
+        let mut marks = std::array::from_fn(|v| v == self.depot);
         while self.grow(&mut marks) {}
         marks
     }

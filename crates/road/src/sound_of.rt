@@ -14,12 +14,9 @@ impl Town {
         ensures { Answers (reach_refusal (model self.now) self.now.depot) (λ _. (k : ℕ) → k < size (model self.now) → reached (model self.now) self.now.depot (one (model self.now) k) ≡ true) result }
     {
         let marks = self.come_to();
-        for k in 0..self.count {
-            if !marks[self.street(k).one] {
-                return Err(Refusal::Unreached(k as u64));
-            }
-        }
-        Ok(())
+        (0..self.count)
+            .find(|&k| !marks[self.street(k).one])
+            .map_or(Ok(()), |k| Err(Refusal::Unreached(k as u64)))
     }
 }
 

@@ -19,15 +19,7 @@ impl Town {
         ensures is { result ≡ street (model self.now) k }
         ensures within { Within self.now.crossings result }
     {
-        if k < self.count {
-            self.streets[k]
-        } else {
-            Street {
-                one: 0,
-                two: 0,
-                long: 0,
-            }
-        }
+        self.streets().get(k).copied().unwrap_or_default()
     }
 
     // All streets together, in metres.
@@ -35,10 +27,6 @@ impl Town {
         ensures is { result ≡ all_streets (model self.now).streets }
         ensures most { result ≤ 30000000 }
     {
-        let mut sum = 0;
-        for k in 0..self.count {
-            sum += self.street(k).long;
-        }
-        sum
+        self.streets().iter().map(|street| street.long).sum()
     }
 }

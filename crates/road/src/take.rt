@@ -2,7 +2,7 @@
 ghost use Rattle.std.specs.Prelude.{◌≡◌, ℕ, ◌/◌, ◌<◌, ◌≤◌, length, take, replicate};
 ghost use Rattle.road.specs.Roads.{no_street, street};
 ghost use Rattle.road.specs.Limits.{Within, within};
-ghost use Rattle.road.specs.Numbers.{streets_in, town_in};
+ghost use Rattle.road.specs.Numbers.{street_of, streets_in, town_in};
 ghost use Rattle.road.specs.Refusals.{Answers, crossings_refusal, numbers_refusal, streets_refusal, depot_refusal, town_refusal};
 ghost use Rattle.road.specs.Model.{model};
 
@@ -20,7 +20,7 @@ impl Street {
 fn check_crossings(crossings: u64) -> Result<(), Refusal>
     ensures { Answers (crossings_refusal crossings) (λ _. (1 ≤ crossings) × (crossings ≤ 100)) result }
 {
-    if crossings >= 1 && crossings <= 100 {
+    if (1..=100).contains(&crossings) {
         Ok(())
     } else {
         Err(Refusal::Crossings(crossings))
@@ -37,28 +37,25 @@ fn check_numbers(numbers: &[u64]) -> Result<(), Refusal>
     }
 }
 
-// Street k of the numbers.
+// Street k of the numbers; past the last a street of no length at crossing 0.
 fn street_at(numbers: &[u64], k: usize) -> Street
-    requires { k < length numbers.now / 3 }
     ensures { (n : ℕ) → result ≡ street (town_in n numbers.now) k }
 {
-    let at = 3 * k;
-    Street {
-        one: numbers[at] as usize,
-        two: numbers[at + 1] as usize,
-        long: numbers[at + 2],
+    let (streets, _) = numbers.as_chunks::<3>();
+    match streets.get(k) {
+        Some(street) => Street::from(*street),
+        None => Street::default(),
     }
 }
 
 fn check_streets(crossings: usize, numbers: &[u64]) -> Result<(), Refusal>
     ensures { Answers (streets_refusal (town_in crossings numbers.now)) (λ _. (k : ℕ) → k < length numbers.now / 3 → Within crossings (street (town_in crossings numbers.now) k)) result }
 {
-    for k in 0..numbers.len() / 3 {
-        if !street_at(numbers, k).is_within(crossings) {
-            return Err(Refusal::OutOfRange(k as u64));
-        }
-    }
-    Ok(())
+    let (streets, _) = numbers.as_chunks::<3>();
+    streets
+        .iter()
+        .position(|street| !Street::from(*street).is_within(crossings))
+        .map_or(Ok(()), |k| Err(Refusal::OutOfRange(k as u64)))
 }
 
 fn check_depot(crossings: u64, depot: u64) -> Result<(), Refusal>
@@ -71,26 +68,16 @@ fn check_depot(crossings: u64, depot: u64) -> Result<(), Refusal>
     }
 }
 
-fn no_streets() -> [Street; 300]
-    ensures { result ≡ replicate 300 no_street }
-{
-    [Street {
-        one: 0,
-        two: 0,
-        long: 0,
-    }; 300]
-}
-
 fn read_streets(numbers: &[u64]) -> [Street; 300]
     requires { length numbers.now / 3 ≤ 300 }
     ensures places { length result ≡ 300 }
     ensures streets { take (length numbers.now / 3) result ≡ streets_in (length numbers.now / 3) numbers.now }
 {
-    let mut streets = no_streets();
-    for k in 0..numbers.len() / 3 {
-        streets[k] = street_at(numbers, k);
-    }
-    streets
+    std::array::from_fn(
+        |k|
+            ensures { (n : ℕ) → result ≡ street (town_in n numbers.entry.now) k }
+        { street_at(numbers, k) },
+    )
 }
 
 impl Town {

@@ -1,19 +1,13 @@
 -- The steps of the proof of `read_streets` that are not found by search.
-use Rattle.std.proofs.Common.{arith, length-set}
+use Rattle.std.proofs.Common.{◌≡◌, rules, arith}
 use Rattle.road.specs.Roads.{street, no_street}
 use Rattle.road.specs.Numbers.{town_in}
-use Rattle.road.proofs.Fill.{fill_more}
+use Rattle.road.proofs.Fill.{made_at}
 use Rattle.road.proofs.Numbers.{streets_read}
 use Rattle.road.proofs.take.read_streets.Goals as goal
 
-pub loop-k-preserved : goal.loop-k-preserved
-loop-k-preserved c = (
-  simp length-set c.loop-k.invariant.0,
-  fill_more no_street (street (town_in 0 c.args.numbers.now)) c.loop-k.streets c.loop-k.k c.street_at.result (omega arith) c.loop-k.invariant.1 (c.street_at.ensures 0),
-)
-
-pub returns : goal.returns
-returns c = record {
-  places = c.loop-k.invariant.0;
-  streets = streets_read 0 c.args.numbers.now c.loop-k.streets (omega arith) (λ k h. c.loop-k.invariant.1 k (omega arith));
-}
+pub returns-clause-streets : goal.returns-clause-streets
+returns-clause-streets c =
+    let xs = c.args.numbers.now in
+    let read = made_at _ _ (λ k s. s ≡ street (town_in 0 xs) k) (λ k y q called. (search (rules, called.met.0), called.met.1 0)) c.from_fn.result 0 300 c.from_fn.ensures.items.each no_street in
+    streets_read 0 xs c.from_fn.result (omega (arith, c.from_fn.ensures.items.long, c.requires)) (λ k h. read k k (omega (arith, c.requires)) (omega arith))

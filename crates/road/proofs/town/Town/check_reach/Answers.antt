@@ -1,30 +1,24 @@
 -- The steps of the proof of `check_reach` that are not found by search.
-use Rattle.std.proofs.Common.{sym, ap, ◌∙◌, arith, below_more}
-use Rattle.road.specs.Roads.{Street}
-use Rattle.road.specs.Counts.{one}
+use Rattle.std.proofs.Common.{◌≡◌, ℕ, ◌<◌, true, refl, rules, tests, not, Bool, arith}
+use Rattle.std.proofs.lemmas.Iterator.{YieldsList-from_range}
+use Rattle.std.proofs.lemmas.Iterator.Search.{find_from_yields_List}
+use Rattle.road.specs.declared.refusal.Refusal.TheVariants.{Unreached}
+use Rattle.road.specs.Roads.{Town}
+use Rattle.road.specs.Counts.{size, one}
 use Rattle.road.specs.Reach.{reached}
+use Rattle.road.specs.Refusals.{listed}
 use Rattle.road.specs.Model.{model}
-use Rattle.road.proofs.First.{all_kept, first_broken}
+use Rattle.road.proofs.First.{range_broken, says_found}
 use Rattle.road.proofs.Models.{size_model}
 use Rattle.road.proofs.town.Town.check_reach.Goals as goal
 
-pub returns-then-not-marks-street : goal.returns-then-not-marks-street
-returns-then-not-marks-street c =
-    let t = c.args.self.now in
-    let e = size_model t in
-    first_broken _ (λ k. reached (model t) t.depot (one (model t) k)) (λ k. (5, k)) c.loop-k.k (omega arith) c.loop-k.invariant
-    (ap (λ (s : Street). reached (model t) t.depot s.one) (sym c.street.ensures.is) ∙ sym (c.come_to-marks.ensures _) ∙ c.if-not-marks-street.true)
-
-pub loop-k-preserved : goal.loop-k-preserved
-loop-k-preserved c =
-    let t = c.args.self.now in
-    below_more _ _ c.loop-k.invariant
-    (ap (λ (s : Street). reached (model t) t.depot s.one) (sym c.street.ensures.is) ∙ sym (c.come_to-marks.ensures _) ∙ c.if-not-marks-street.false)
+abbrev kept : Town → ℕ → ℕ → Bool
+kept t depot k = reached t depot (one t k)
 
 pub returns : goal.returns
 returns c =
-    let t = c.args.self.now in
-    let e = size_model t in (
-      all_kept _ (λ k. reached (model t) t.depot (one (model t) k)) (λ k. (5, k)) (λ k h. c.loop-k.invariant k (omega arith)),
-      λ k h. c.loop-k.invariant k (omega arith),
-    )
+    let t = model c.args.self.now in
+    let r = kept t c.args.self.now.depot in
+    let found = range_broken (size t) r c.find.result
+    (find_from_yields_List (λ k. not (r k)) _ _ c.find.result c.find.ensures.ran (YieldsList-from_range 0 _ (size t) refl (omega (arith, size_model c.args.self.now))) (λ x b q k. search (rules, tests))) in
+    says_found listed _ r (λ k. (5, k)) (λ _. (k : ℕ) → k < size t → r k ≡ true) tt Unreached _ c.map_or.result found (search rules) (λ k. refl) (λ h. h)

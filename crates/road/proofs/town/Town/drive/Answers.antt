@@ -9,23 +9,22 @@ use Rattle.road.proofs.town.Town.drive.Goals as goal
 
 pub loop-i-init : goal.loop-i-init
 loop-i-init c =
-    let t = model c.args.self.now in
-    subst (Along t c.args.start c.args.legs.now 0 c.args.start) (sym c.no_marks-marks.ensures) (along_start t c.args.start c.args.legs.now)
+    along_start (model c.args.self.now) c.args.start c.args.legs.now
 
 pub returns-then-not-begins : goal.returns-then-not-begins
 returns-then-not-begins c =
     along_stuck (model c.args.self.now) c.args.start c.args.legs.now c.loop-i.i c.loop-i.at c.loop-i.marks c.loop-i.invariant
-    c.of-leg.result c.loop-i-test.true c.of-leg.ensures (sym c.if-not-begins.ensures)
+    c.from-leg.result c.loop-i-test.true c.from-leg.ensures (sym c.if-not-begins.ensures)
 
 pub loop-i-preserved : goal.loop-i-preserved
 loop-i-preserved c =
     let t = c.args.self.now in
-    let there = sym {b = begins (model t) c.loop-i.at c.of-leg.result} c.if-not-begins.ensures in
-    let low = begins_low (model t) c.loop-i.at c.of-leg.result there in
-    let by : c.of-leg.result.by < 300 = omega (arith, size_model t) in
-    subst (λ w. Along (model t) c.args.start c.args.legs.now (c.loop-i.i + 1) w (set c.loop-i.marks c.of-leg.result.by true)) (sym {b = into (model t) c.of-leg.result} c.end_of-at.ensures.is)
+    let there = sym {b = begins (model t) c.loop-i.at c.from-leg.result} c.if-not-begins.ensures in
+    let low = begins_low (model t) c.loop-i.at c.from-leg.result there in
+    let by : c.from-leg.result.by < 300 = omega (arith, size_model t) in
+    subst (λ w. Along (model t) c.args.start c.args.legs.now (c.loop-i.i + 1) w (set c.loop-i.marks c.from-leg.result.by true)) (sym {b = into (model t) c.from-leg.result} c.end_of-at.ensures.is)
     (along_more (model t) c.args.start c.args.legs.now c.loop-i.i c.loop-i.at c.loop-i.marks c.loop-i.invariant
-    c.of-leg.result c.loop-i-test.true c.of-leg.ensures there by)
+    c.from-leg.result c.loop-i-test.true c.from-leg.ensures there by)
 
 pub returns : goal.returns
 returns c =
