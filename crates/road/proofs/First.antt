@@ -1,8 +1,6 @@
 -- The first place below a number that passes a test, and refusals there. Assumes nothing.
-use Rattle.std.proofs.Common.{◌≡◌, ℕ, zero, suc, ◌+◌, ◌<◌, ◌≤◌, Bool, true, false, not, ◌&&◌, leb, ◌⊎◌, ◌↔◌, is_some, Some, None, Ok, Err, Option, Result, MatchOption, unwrap_or, cond, sym, refl, ap, ap₂, subst, ◌∙◌, inl, inr, ⊎_elim, arith}
+use Rattle.std.proofs.Common.{◌≡◌, ℕ, zero, suc, ◌<◌, ◌≤◌, Bool, true, false, not, ◌&&◌, leb, ◌⊎◌, ◌↔◌, is_some, Some, None, Ok, Err, Option, Result, MatchOption, unwrap_or, sym, refl, ap, ap₂, subst, ◌∙◌, inl, inr, ⊎_elim, arith}
 use Rattle.std.proofs.lemmas.Bool.{cases_lt, both_ways, false≢true, le-leb, lt-leb, leb-true, leb-false, and_parts, and_from, not_from_true, not_from_false, not-true, not-false}
-use Rattle.std.specs.Option.{option_map}
-use Rattle.std.specs.List.{find, range_with_len}
 use Rattle.road.specs.Roads.{pick}
 use Rattle.road.specs.First.{first, unless, unless_all, ◌then◌, Says}
 
@@ -88,30 +86,6 @@ says_found {A} {B} {E} said n kept wrong P a made (Some k) r h e f g =
 pub broken_ext : (n m : ℕ) (p q : ℕ → Bool) (o : Option ℕ) → FirstBroken n p o → n ≡ m → ((k : ℕ) → k < m → q k ≡ p k) → FirstBroken m q o
 broken_ext n m p q None h e f = λ k i. f k i ∙ h k (omega arith)
 broken_ext n m p q (Some k) h e f = (omega arith, f k (omega arith) ∙ h.1, λ j i. f j (omega arith) ∙ h.2 j i)
-
--- the first number of a range that passes a test, or none
-abbrev pub FirstFrom : ℕ → ℕ → (ℕ → Bool) → Option ℕ → Type 0
-FirstFrom a n p o = MatchOption o ((k : ℕ) → a ≤ k → k < a + n → p k ≡ false) (λ k. (a ≤ k) × (k < a + n) × (p k ≡ true) × ((j : ℕ) → a ≤ j → j < k → p j ≡ false))
-
-pub find_range : (p : ℕ → Bool) (a n : ℕ) → FirstFrom a n p (find p (range_with_len a n))
-find_range p a zero = λ k l h. absurd (omega arith)
-find_range p a (suc n) = at (p a) refl (find p (range_with_len (a + 1) n)) (find_range p (a + 1) n)
-  where
-    later : (P : ℕ → Type 0) (k : ℕ) → a ≤ k → P a → (a + 1 ≤ k → P k) → P k
-    later P k l here after = ⊎_elim (λ lt. after (omega arith)) (λ ge. subst P (omega arith) here) (cases_lt a k)
-
-    at : (b : Bool) → p a ≡ b → (o : Option ℕ) → FirstFrom (a + 1) n p o → FirstFrom a (suc n) p (cond b (Some a) o)
-    at true e o h = (omega arith, omega arith, e, λ j l i. absurd (omega arith))
-    at false e None h = λ k l i. later (λ k. p k ≡ false) k l e (λ l. h k l (omega arith))
-    at false e (Some k) h = (omega arith, omega arith, h.2, λ j l i. later (λ j. p j ≡ false) j l e (λ l. h.3 j l i))
-
--- the same of a rule, where the range begins at 0
-pub range_broken : (n : ℕ) (kept : ℕ → Bool) (o : Option ℕ) → option_map (λ x. x) o ≡ find (λ k. not (kept k)) (range_with_len 0 n) → FirstBroken n kept o
-range_broken n kept o e = at o (subst (FirstFrom 0 n (λ k. not (kept k))) (sym e) (find_range (λ k. not (kept k)) 0 n))
-  where
-    at : (o : Option ℕ) → FirstFrom 0 n (λ k. not (kept k)) (option_map (λ x. x) o) → FirstBroken n kept o
-    at None h = λ k i. not-false (kept k) (h k (omega arith) (omega arith))
-    at (Some k) h = (omega arith, not-true (kept k) h.2, λ j i. not-false (kept j) (h.3 j (omega arith) i))
 
 -- tests that agree below n have the same first place
 pub first_ext : (n : ℕ) (p q : ℕ → Bool) → ((k : ℕ) → k < n → p k ≡ q k) → first n p ≡ first n q

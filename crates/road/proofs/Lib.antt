@@ -12,6 +12,7 @@ pub mod Models
 pub mod Growth
 pub mod Listed
 pub mod First
-pub mod Fill
+pub mod FromFn
+pub mod Ranges
 pub mod Numbers
 pub mod Limits

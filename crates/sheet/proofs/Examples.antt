@@ -6,7 +6,7 @@ use Rattle.road.specs.Numbers.{town_in, legs_in, streets_in}
 use Rattle.road.specs.First.{first}
 use Rattle.road.specs.Faults.{driven, end}
 use Rattle.sheet.specs.declared.word.Word.{Word}
-use Rattle.sheet.specs.declared.word.Word.TheVariants.{NoRound, NoSheet, Shortest, Apart, Refused}
+use Rattle.sheet.specs.declared.word.Word.TheVariants.{NoRound, NoSheet, Shortest, Apart}
 use Rattle.sheet.specs.Sheet.{leads_out, ways_out, load, weights}
 use Rattle.sheet.specs.Numbers.{parts_in, sheet_in}
 use Rattle.sheet.specs.Words.{judged}
@@ -19,7 +19,6 @@ is_shortest n (Shortest m) = eqb m n
 is_shortest n (NoRound f) = false
 is_shortest n (NoSheet f) = false
 is_shortest n (Apart m b) = false
-is_shortest n (Refused r) = false
 
 shortest_is : (n : ℕ) (w : Word) → is_shortest n w ≡ true → w ≡ Shortest n
 unfolding is_shortest
@@ -27,7 +26,6 @@ shortest_is n (Shortest m) e = ap Shortest (eqb-true m n e)
 shortest_is n (NoRound f) e = absurd (both_ways false refl e)
 shortest_is n (NoSheet f) e = absurd (both_ways false refl e)
 shortest_is n (Apart m b) e = absurd (both_ways false refl e)
-shortest_is n (Refused r) e = absurd (both_ways false refl e)
 
 judgement : Worked → Word
 judgement e = judged (town_in e.crossings e.streets) 0 (legs_in e.legs) (sheet_in e.crossings e.parts)

@@ -1,5 +1,5 @@
 -- What the checker's words mean. Assumes nothing.
-use Rattle.std.proofs.Common.{◌≡◌, ℕ, ◌+◌, ◌*◌, ◌/◌, ◌%◌, ◌<◌, Bool, true, false, not, eqb, leb, ◌⊎◌, ◌↔◌, List, length, get_or, Some, None, Option, sym, refl, ap, ◌∙◌, ap₂, inl, inr, ⊎_elim, arith}
+use Rattle.std.proofs.Common.{◌≡◌, ℕ, ◌+◌, ◌*◌, ◌/◌, ◌%◌, ◌<◌, Bool, true, false, not, eqb, leb, ◌⊎◌, ◌↔◌, List, length, get_or, Some, None, Ok, Option, sym, refl, ap, ◌∙◌, ap₂, inl, inr, ⊎_elim, arith}
 use Rattle.std.proofs.lemmas.Bool.{leb-true, le-leb, eqb-true, eq-eqb, ne_eqb, eqb-false}
 use Rattle.road.specs.declared.fault.Fault.{Fault}
 use Rattle.road.specs.declared.leg.Leg.{Leg}
@@ -12,10 +12,10 @@ use Rattle.road.proofs.Faults.{fault_round}
 use Rattle.sheet.specs.declared.word.SheetFault.{SheetFault}
 use Rattle.sheet.specs.declared.word.SheetFault.TheVariants.{Part as AtPart, Street as AtStreet}
 use Rattle.sheet.specs.declared.word.Word.{Word}
-use Rattle.sheet.specs.declared.word.Word.TheVariants.{NoRound, NoSheet, Shortest, Apart, Refused}
+use Rattle.sheet.specs.declared.word.Word.TheVariants.{NoRound, NoSheet, Shortest, Apart}
 use Rattle.sheet.specs.Sheet.{Part, no_part, Sheet, ways_out, load}
 use Rattle.sheet.specs.Shown.{Shows, Accepted}
-use Rattle.sheet.specs.Words.{part_fault, load_fault, sheet_fault, shown, compared, judged_by, judged, said, unless_refused}
+use Rattle.sheet.specs.Words.{part_fault, load_fault, sheet_fault, shown, compared, judged_by, judged}
 use Rattle.sheet.specs.Laws.{Odd, Bears, Agree, WordShortest, WordNoRound, WordNoSheet, WordAtPart, WordAtStreet, WordApart}
 use Rattle.sheet.proofs.Right.{accepted}
 
@@ -223,13 +223,12 @@ module _ (t : Town) (depot : ℕ) (ls : List Leg) (ps : List Part) where
   )
 
   -- the word shortest is only given to a shortest round
-  pub judged_shows : (v : Word) → judged t depot ls ps ≡ v → Shows t depot ls v
+  pub judged_shows : (v : Word) → judged t depot ls ps ≡ v → Shows t depot ls (Ok v)
   unfolding Accepted
   judged_shows (Shortest n) e = let r = (shortest_if n).0 e in (accepted t depot ps ls r.1 r.0 r.2, sym r.3)
   judged_shows (NoRound f) e = tt
   judged_shows (NoSheet f) e = tt
   judged_shows (Apart n m) e = tt
-  judged_shows (Refused r) e = tt
 
 pub word_shortest : WordShortest
 word_shortest = shortest_if
@@ -254,7 +253,3 @@ word_at_street t depot ls ps k =
     let only = no_sheet_if t depot ls ps (AtStreet k) in
     let at = at_street t ps k in
     (λ e. let r = only.0 e in let f = at.0 r.1 in (r.0, f.0, f.1, f.2, f.3), λ r. only.1 (r.0, at.1 (r.1, r.2, r.3, r.4)))
-
--- what is said where nothing is turned away
-pub unrefused : (due : Option (ℕ × ℕ)) (w v : Word) → due ≡ None → w ≡ v → said w ≡ unless_refused due v
-unrefused due w v d e = rw (d, e) refl

@@ -1,5 +1,6 @@
 -- What a sheet shows. Each is a statement, a type that src/lib.rt asks a proof of. Assumes nothing.
-use Rattle.std.specs.Prelude.{◌≡◌, ℕ, suc, ◌+◌, ◌*◌, ◌%◌, ◌≤◌, Bool, List, [], ◌∷◌}
+use Rattle.std.specs.Prelude.{◌≡◌, ℕ, suc, ◌+◌, ◌*◌, ◌%◌, ◌≤◌, Bool, List, [], ◌∷◌, Ok, Err, Result}
+use Rattle.road.specs.declared.refusal.Refusal.{Refusal}
 use Rattle.road.specs.declared.leg.Leg.{Leg}
 use Rattle.road.specs.Roads.{pick, Town, street, Drive, Round, Shortest, far, all_streets}
 use Rattle.sheet.specs.declared.word.Word.{Word}
@@ -34,9 +35,9 @@ Accepted =
     2 * far t ls ≡ 2 * all_streets t.streets + weights ps → Shortest t depot ls
 
 -- what the word shortest means: the legs are a shortest round, of that length
-abbrev pub Shows : Town → ℕ → List Leg → Word → Type 0
-Shows t depot ls (words.Shortest n) = Shortest t depot ls × (far t ls ≡ n)
-Shows t depot ls (words.NoRound f) = Unit {0}
-Shows t depot ls (words.NoSheet f) = Unit {0}
-Shows t depot ls (words.Apart n m) = Unit {0}
-Shows t depot ls (words.Refused r) = Unit {0}
+abbrev pub Shows : Town → ℕ → List Leg → Result Word Refusal → Type 0
+Shows t depot ls (Ok (words.Shortest n)) = Shortest t depot ls × (far t ls ≡ n)
+Shows t depot ls (Ok (words.NoRound f)) = Unit {0}
+Shows t depot ls (Ok (words.NoSheet f)) = Unit {0}
+Shows t depot ls (Ok (words.Apart n m)) = Unit {0}
+Shows t depot ls (Err r) = Unit {0}

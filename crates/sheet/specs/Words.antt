@@ -1,7 +1,8 @@
 -- The word on a round and a sheet. Assumes nothing: these are definitions.
-use Rattle.std.specs.Prelude.{ℕ, ◌+◌, ◌*◌, ◌/◌, ◌%◌, List, [], ◌∷◌, length, Some, None, Option, Result, ◌==◌, nat_le, slice_index, slice_index_or}
+use Rattle.std.specs.Prelude.{ℕ, ◌+◌, ◌*◌, ◌/◌, ◌%◌, List, [], ◌∷◌, length, Some, None, Ok, Err, Option, Result, ◌==◌, nat_le, slice_index, slice_index_or}
 use Rattle.road.specs.declared.fault.Fault.{Fault}
 use Rattle.road.specs.declared.fault.Fault.TheVariants.{Leg as AtLeg, Home, Street as LeftOut}
+use Rattle.road.specs.declared.refusal.Refusal.{Refusal}
 use Rattle.road.specs.declared.leg.Leg.{Leg}
 use Rattle.road.specs.Roads.{pick, Town, street, far, all_streets}
 use Rattle.road.specs.Counts.{size, all}
@@ -12,7 +13,7 @@ use Rattle.road.specs.Faults.{fault}
 use Rattle.sheet.specs.declared.word.SheetFault.{SheetFault}
 use Rattle.sheet.specs.declared.word.SheetFault.TheVariants.{Part as AtPart, Street as AtStreet}
 use Rattle.sheet.specs.declared.word.Word.{Word}
-use Rattle.sheet.specs.declared.word.Word.TheVariants.{NoRound, NoSheet, Shortest, Apart, Refused}
+use Rattle.sheet.specs.declared.word.Word.TheVariants.{NoRound, NoSheet, Shortest, Apart}
 use Rattle.sheet.specs.Sheet.{Part, no_part, ways_out, load, weights}
 
 -- the first part out of which an even number of streets lead
@@ -67,18 +68,18 @@ parts_refusal n xs = whole_refusal n xs then (count_refusal n xs then weight_ref
 abbrev pub check_refusal : ℕ → List ℕ → ℕ → List ℕ → List ℕ → Option (ℕ × ℕ)
 check_refusal n streets depot legs parts = town_refusal n streets depot then (legs_refusal (town_in n streets) legs then parts_refusal n parts)
 
--- the number of each case of a word, and its values: of a fault its kind and place, of a refusal its number and place
-abbrev pub said : Word → ℕ × List ℕ
-said (NoRound (AtLeg i)) = (0, 0 ∷ i ∷ [])
-said (NoRound Home) = (0, 1 ∷ [])
-said (NoRound (LeftOut k)) = (0, 2 ∷ k ∷ [])
-said (NoSheet (AtPart i)) = (1, 0 ∷ i ∷ [])
-said (NoSheet (AtStreet k)) = (1, 1 ∷ k ∷ [])
-said (Shortest n) = (2, n ∷ [])
-said (Apart n m) = (3, n ∷ m ∷ [])
-said (Refused r) = (4, (listed r).0 ∷ (listed r).1 ∷ [])
+-- the number of each case of an answer, and its values: of a fault its kind and place, of a refusal its number and place
+abbrev pub said : Result Word Refusal → ℕ × List ℕ
+said (Ok (NoRound (AtLeg i))) = (0, 0 ∷ i ∷ [])
+said (Ok (NoRound Home)) = (0, 1 ∷ [])
+said (Ok (NoRound (LeftOut k))) = (0, 2 ∷ k ∷ [])
+said (Ok (NoSheet (AtPart i))) = (1, 0 ∷ i ∷ [])
+said (Ok (NoSheet (AtStreet k))) = (1, 1 ∷ k ∷ [])
+said (Ok (Shortest n)) = (2, n ∷ [])
+said (Ok (Apart n m)) = (3, n ∷ m ∷ [])
+said (Err r) = (4, (listed r).0 ∷ (listed r).1 ∷ [])
 
 -- what is said where a refusal may be due
 abbrev pub unless_refused : Option (ℕ × ℕ) → Word → ℕ × List ℕ
 unless_refused (Some due) w = (4, due.0 ∷ due.1 ∷ [])
-unless_refused None w = said w
+unless_refused None w = said (Ok w)

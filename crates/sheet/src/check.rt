@@ -1,7 +1,6 @@
 // The checker: the word on a round and a sheet that somebody brings.
 ghost use Rattle.std.specs.Prelude.{◌≡◌};
 ghost use Rattle.road.specs.Numbers.{town_in, legs_in};
-ghost use Rattle.road.specs.Refusals.{Answers};
 ghost use Rattle.sheet.specs.Numbers.{sheet_in};
 ghost use Rattle.sheet.specs.Words.{sheet_fault, compared, judged, Finds, check_refusal, said, unless_refused};
 ghost use Rattle.sheet.specs.Shown.{Shows};
@@ -48,31 +47,21 @@ impl Parts<'_, '_> {
     }
 }
 
-// The word on the legs and parts of a town, or the first refusal of 1 to 4, 7 and 8 that applies.
-fn take_and_judge(
+// The word on a round and a sheet, given as anybody may have written them; or the first refusal of 1 to 4, 7 and 8 that applies.
+// Nothing is allocated and nothing lent is changed.
+pub fn check_round(
     crossings: u64,
     streets: &[u64],
     depot: u64,
     legs: &[u64],
     parts: &[u64],
 ) -> Result<Word, Refusal>
-    ensures { Answers (check_refusal crossings streets.now depot legs.now parts.now)
-        (λ w. w ≡ judged (town_in crossings streets.now) depot (legs_in legs.now) (sheet_in crossings parts.now)) result }
+    ensures word { said result ≡ unless_refused (check_refusal crossings streets.now depot legs.now parts.now)
+        (judged (town_in crossings streets.now) depot (legs_in legs.now) (sheet_in crossings parts.now)) }
+    ensures shows { Shows (town_in crossings streets.now) depot (legs_in legs.now) result }
 {
     let town = Town::take(crossings, streets, depot)?;
     town.check_legs(legs)?;
     let taken = Parts::take(&town, parts)?;
     Ok(taken.judge(legs))
-}
-
-// The word on a round and a sheet, given as anybody may have written them. Nothing is allocated and nothing lent is changed.
-pub fn check_round(crossings: u64, streets: &[u64], depot: u64, legs: &[u64], parts: &[u64]) -> Word
-    ensures word { said result ≡ unless_refused (check_refusal crossings streets.now depot legs.now parts.now)
-        (judged (town_in crossings streets.now) depot (legs_in legs.now) (sheet_in crossings parts.now)) }
-    ensures shows { Shows (town_in crossings streets.now) depot (legs_in legs.now) result }
-{
-    match take_and_judge(crossings, streets, depot, legs, parts) {
-        Ok(word) => word,
-        Err(refusal) => Word::Refused(refusal),
-    }
 }

@@ -14,29 +14,24 @@ impl Parts<'_, '_> {
         requires { i < self.now.count }
         ensures { result ≡ (ways_out (slice_index_or (parts_of self.now) i no_part).marks (town_of self.now).streets % 2 == 1) }
     {
-        let mut odd = false;
-        for k in 0..self.town.count {
-            odd = odd != self.leads_out(i, k);
-        }
-        odd
+        let out = (0..self.town.count).filter(|&k| self.leads_out(i, k));
+        out.count() % 2 == 1
     }
 
     // Out of each part lead an odd number of streets.
     pub(crate) fn check_odd(&self) -> Result<(), SheetFault>
         ensures { Finds (part_fault (town_of self.now) (parts_of self.now)) result }
     {
-        for i in 0..self.count {
-            if !self.is_odd(i) {
-                return Err(SheetFault::Part(i));
-            }
-        }
-        Ok(())
+        (0..self.count)
+            .find(|&i| !self.is_odd(i))
+            .map_or(Ok(()), |i| Err(SheetFault::Part(i)))
     }
 
     // What the parts out of which street k leads weigh together.
     fn load(&self, k: usize) -> u64
         ensures { result ≡ load (parts_of self.now) (street (town_of self.now) k) }
     {
+        // A loop, since no proof was found that the sum of a chain over the parts fits.
         let mut sum = 0;
         for i in 0..self.count {
             if self.leads_out(i, k) {
@@ -50,13 +45,9 @@ impl Parts<'_, '_> {
     pub(crate) fn check_loads(&self) -> Result<(), SheetFault>
         ensures { Finds (load_fault (town_of self.now) (parts_of self.now)) result }
     {
-        for k in 0..self.town.count {
-            let street = self.town.street(k);
-            if self.load(k) > 2 * street.long {
-                return Err(SheetFault::Street(k));
-            }
-        }
-        Ok(())
+        (0..self.town.count)
+            .find(|&k| self.load(k) > 2 * self.town.street(k).long)
+            .map_or(Ok(()), |k| Err(SheetFault::Street(k)))
     }
 
     // What all parts weigh together.
@@ -64,6 +55,7 @@ impl Parts<'_, '_> {
         ensures is { result ≡ weights (parts_of self.now) }
         ensures most { result ≤ 4000000000 }
     {
+        // A loop, as in `load`.
         let mut sum = 0;
         for i in 0..self.count {
             sum += self.weight(i);

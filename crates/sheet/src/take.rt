@@ -33,6 +33,7 @@ fn check_weights(crossings: usize, numbers: &[u64]) -> Result<(), Refusal>
     requires { crossings ≤ 100 }
     ensures { Answers (weight_refusal crossings numbers.now) (λ _. (i : ℕ) → i < length numbers.now / (1 + crossings) → slice_index numbers.now (i * (1 + crossings)) ≤ 10000000) result }
 {
+    // A loop by index: no proof was found of a search over the chunks of a width that is no literal.
     for i in 0..numbers.len() / (1 + crossings) {
         if numbers[i * (1 + crossings)] > 10_000_000 {
             return Err(Refusal::Parts(i as u64));

@@ -1,5 +1,5 @@
 // The checker's word on a round and a sheet.
-use road::{Fault, Refusal};
+use road::Fault;
 
 // What is wrong with parts as a sheet.
 #[derive(Clone, Copy, PartialEq, Eq, Debug)]
@@ -20,5 +20,4 @@ pub enum Word {
     Shortest(u128),
     // Both are right and do not agree: the round's length, and half of what the sheet shows, rounded up.
     Apart(u128, u128),
-    Refused(Refusal),
 }

@@ -12,6 +12,7 @@ pub enum NoWays {
     Memory(AllocError),
 }
 
+// By hand, since contracts read what it gives.
 impl From<AllocError> for NoWays {
     ghost from_gives = { λ e r. r ≡ Memory e };
 

@@ -11,10 +11,7 @@ use std::alloc::{AllocError, Global};
 fn is_shorter(length: u64, way: &Option<Way>) -> bool
     ensures { result ≡ shorter length way.now }
 {
-    match way {
-        Some(old) => length < old.length,
-        None => true,
-    }
+    way.as_ref().is_none_or(|old| length < old.length)
 }
 
 impl Way {

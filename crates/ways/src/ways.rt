@@ -33,19 +33,14 @@ impl Ways {
     pub fn way(&self, end: usize) -> Result<Option<&Way>, NoWays>
         ensures { MatchResult result (λ o. (end < places self.now) × (option_map (λ x. x.now) o ≡ to self.now end)) (λ e. (e ≡ NoCrossing end) × (places self.now ≤ end)) }
     {
-        match self.ways.get(end) {
-            Some(way) => Ok(way.as_ref()),
-            None => Err(NoWays::NoCrossing(end)),
-        }
+        let way = self.ways.get(end).ok_or(NoWays::NoCrossing(end))?;
+        Ok(way.as_ref())
     }
 
     // The length of a shortest drive to a crossing, if there is a drive; an end past the crossings is refused.
     pub fn distance(&self, end: usize) -> Result<Option<u64>, NoWays>
         ensures { MatchResult result (λ d. (end < places self.now) × (d ≡ distance_of (to self.now end))) (λ e. (e ≡ NoCrossing end) × (places self.now ≤ end)) }
     {
-        match self.way(end)? {
-            Some(way) => Ok(Some(way.length)),
-            None => Ok(None),
-        }
+        Ok(self.way(end)?.map(|way| way.length))
     }
 }

@@ -1,7 +1,7 @@
 -- The steps of the proof of `come_to` that are not found by search.
-use Rattle.std.proofs.Common.{◌≡◌, false, rules, tests, eqb, arith}
+use Rattle.std.proofs.Common.{false, rules, tests, eqb, arith}
 use Rattle.road.specs.Model.{model, marked}
-use Rattle.road.proofs.Fill.{made_at}
+use Rattle.road.proofs.FromFn.{holds_each}
 use Rattle.road.proofs.Models.{size_model}
 use Rattle.road.proofs.Growth.{grown_start}
 use Rattle.road.proofs.Reached.{reached_is}
@@ -11,7 +11,7 @@ pub loop-init : goal.loop-init
 loop-init c =
     let t = c.args.self.now in
     grown_start (model t) t.depot c.from_fn-marks.result (omega arith) c.from_fn-marks.ensures.items.long
-    (λ v h. made_at _ _ (λ v b. b ≡ eqb v t.depot) (λ v b q called. (search (rules, tests), search (rules, tests))) c.from_fn-marks.result 0 100 c.from_fn-marks.ensures.items.each false v v h (omega arith))
+    (λ v h. holds_each (λ v. eqb v t.depot) c.from_fn-marks.ensures.items (λ v b q l e. search (rules, tests)) v false h)
 
 pub returns : goal.returns
 returns c =

@@ -1,26 +1,21 @@
--- The steps of the proof of `check_loads` that are not found by search.
-use Rattle.std.proofs.Common.{◌*◌, leb, ap, arith}
-use Rattle.std.proofs.lemmas.Bool.{lt-leb}
-use Rattle.road.specs.declared.street.Street.{Street}
+-- The step of the proof of `check_loads` that is not found by search.
+use Rattle.std.proofs.Common.{ℕ, refl, sym, rules, tests, ◌*◌, Bool, leb}
 use Rattle.road.specs.Roads.{street}
-use Rattle.road.proofs.First.{all_kept, first_broken}
+use Rattle.road.proofs.First.{broken_ext, says_found}
 use Rattle.road.proofs.Models.{size_model}
+use Rattle.road.proofs.Ranges.{range_broken}
+use Rattle.sheet.specs.declared.parts.Parts.{Parts}
 use Rattle.sheet.specs.declared.word.SheetFault.TheVariants.{Street as AtStreet}
 use Rattle.sheet.specs.Sheet.{load}
 use Rattle.sheet.specs.Model.{parts_of, town_of}
 use Rattle.sheet.proofs.parts.Parts.check_loads.Goals as goal
 
-pub returns-then-load-street : goal.returns-then-load-street
-returns-then-load-street c =
-    let p = c.args.self.now in
-    let s = street (town_of p) c.loop-k.k in
-    let e = size_model p.town.now in
-    let long = ap (λ (s : Street). s.long) c.street-street.ensures.is in
-    first_broken _ (λ k. leb (load (parts_of p) (street (town_of p) k)) (2 * (street (town_of p) k).long)) AtStreet c.loop-k.k (omega arith) c.loop-k.invariant
-    (lt-leb (load (parts_of p) s) (2 * s.long) (omega (arith, c.load.ensures)))
+abbrev bears : Parts → ℕ → Bool
+bears p k = leb (load (parts_of p) (street (town_of p) k)) (2 * (street (town_of p) k).long)
 
 pub returns : goal.returns
 returns c =
     let p = c.args.self.now in
-    let e = size_model p.town.now in
-    (all_kept _ (λ k. leb (load (parts_of p) (street (town_of p) k)) (2 * (street (town_of p) k).long)) AtStreet (λ k h. c.loop-k.invariant k (omega arith)), tt)
+    let found = range_broken (bears p) _ c.find.result c.find.ensures.ran (λ x q k. search (rules, tests)) (λ x q k. search (rules, tests)) in
+    says_found (λ f. f) _ (bears p) AtStreet (λ _. Unit {0}) tt AtStreet _ c.map_or.result (broken_ext _ _ (bears p) (bears p) _ found (sym (size_model p.town.now)) (λ k h. refl)) (search rules)
+    (λ k. refl) (λ h. tt)
