@@ -1,6 +1,6 @@
+// Plans a town: all of its streets together, if each can be come to from the depot.
 #![tactic(auto)]
 
-// Plans a town: all of its streets together, if each can be come to from the depot.
 #[cfg(test)]
 mod tests;
 
@@ -12,7 +12,7 @@ ghost use Rattle.text.specs.Texts.{town_of, no_plan};
 use road::{Refusal, SoundTown};
 use std::alloc::Global;
 use std::process::ExitCode;
-use text::{Error, TownText, read_input, report};
+use text::{Error, TownText, run};
 
 // All streets of a town together, or its refusal.
 fn sum_streets(town: &TownText) -> Result<u64, Refusal>
@@ -28,16 +28,10 @@ fn answer(heap: Global, text: &str) -> Result<u64, Error> {
     Ok(sum_streets(&town)?)
 }
 
-fn run(rt: &HostRuntime) -> Result<(), Error> {
-    let text = read_input(rt)?;
-    let all = answer(rt.alloc(), text.as_str())?;
-    println!(rt; "all streets {all}")?;
-    Ok(())
-}
-
 fn main(rt: HostRuntime) -> ExitCode {
-    match report(&rt, run(&rt)) {
-        Ok(()) => ExitCode::SUCCESS,
-        Err(_) => ExitCode::FAILURE,
-    }
+    run(&rt, |text| {
+        let all = answer(rt.alloc(), text)?;
+        println!(rt; "all streets {all}")?;
+        Ok(())
+    })
 }

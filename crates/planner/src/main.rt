@@ -9,27 +9,25 @@ use crate::printed::plan_town;
 use round::NoPlan;
 use std::alloc::Global;
 use std::process::ExitCode;
-use text::{Error, TownText, read_input, report};
+use text::{Error, TownText, run};
+
+// Why a program stops that gets no plan.
+fn stopped(e: NoPlan) -> Error {
+    match e {
+        NoPlan::Refused(refusal) => refusal.into(),
+        NoPlan::Memory(e) => e.into(),
+    }
+}
 
 // The answer to a text of a town.
 fn answer(heap: Global, text: &str) -> Result<String, Error> {
-    match plan_town(heap, &TownText::read(heap, text)?) {
-        Ok(plan) => Ok(plan),
-        Err(NoPlan::Refused(refusal)) => Err(Error::Refused(refusal)),
-        Err(NoPlan::Memory(_)) => Err(Error::Memory),
-    }
-}
-
-fn run(rt: &HostRuntime) -> Result<(), Error> {
-    let text = read_input(rt)?;
-    let plan = answer(rt.alloc(), text.as_str())?;
-    print!(rt; "{plan}")?;
-    Ok(())
+    plan_town(heap, &TownText::read(heap, text)?).map_err(stopped)
 }
 
 fn main(rt: HostRuntime) -> ExitCode {
-    match report(&rt, run(&rt)) {
-        Ok(()) => ExitCode::SUCCESS,
-        Err(_) => ExitCode::FAILURE,
-    }
+    run(&rt, |text| {
+        let plan = answer(rt.alloc(), text)?;
+        print!(rt; "{plan}")?;
+        Ok(())
+    })
 }

@@ -71,7 +71,7 @@ fn texts(rt: HostRuntime) -> Result<(), Fail> {
 fn said_of_plan(heap: Global, town: &str) -> Result<Said, Error> {
     let plan = answer(heap, town)?;
     let text = format!(in heap; "{town}\n{plan}")?;
-    Ok(Said(RoundText::read(heap, text.as_str())?.word()))
+    Ok(Said(RoundText::read(heap, text.as_str())?.word()?))
 }
 
 #[test]

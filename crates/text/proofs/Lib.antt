@@ -1,3 +1,2 @@
 -- The lemmas of the proofs.
-mod Digits
 mod Writing

@@ -13,9 +13,9 @@ mod texts;
 mod word;
 
 pub use error::{Error, Source};
-pub use input::{read_input, report};
+pub use input::{read_input, report, run};
 pub use line_fault::LineFault;
-pub use plan_lines::plan_text;
+pub use plan_lines::{PlanNumbers, plan_text};
 pub use refusal_words::{RefusalWords, numbered};
 pub use said::Said;
 pub use texts::{RoundText, TownText};

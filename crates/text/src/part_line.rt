@@ -11,28 +11,16 @@ pub(crate) struct PartLine {
 }
 
 impl PartLine {
-    // Whether every crossing of the part is one of the town's.
-    fn is_within(&self, crossings: u64) -> bool {
-        for v in self.crossings.iter() {
-            if *v >= crossings {
-                return false;
-            }
-        }
-        true
-    }
-
     // Adds the part's weight and a mark for each of the town's crossings.
     fn add_to(&self, numbers: &mut Vec<u64>, crossings: u64) -> Result<(), LineFault> {
         numbers.push(self.weight)?;
-        for v in 0..crossings {
-            numbers.push(u64::from(self.crossings.contains(&v)))?;
-        }
+        numbers.extend((0..crossings).map(|v| u64::from(self.crossings.contains(&v))))?;
         Ok(())
     }
 
     // The part in numbers, in a town of so many crossings; marks of more than any town has are left out, since such a town is refused.
     fn write(&self, numbers: &mut Vec<u64>, crossings: u64) -> Result<(), LineFault> {
-        if !self.is_within(crossings) {
+        if !self.crossings.iter().all(|v| *v < crossings) {
             return Err(LineFault::PartCrossing);
         }
         self.add_to(numbers, crossings.min(100))
@@ -40,12 +28,15 @@ impl PartLine {
 }
 
 // The parts as numbers: for each its weight and then a mark for each crossing.
-pub(crate) fn numbers(heap: Global, parts: &[PartLine], crossings: u64) -> Result<Vec<u64>, Error> {
+pub(crate) fn parts_as_numbers(
+    heap: Global,
+    parts: &[PartLine],
+    crossings: u64,
+) -> Result<Vec<u64>, Error> {
     let mut numbers = Vec::new(heap);
     for part in parts {
-        if let Err(fault) = part.write(&mut numbers, crossings) {
-            return Err(Error::Line(part.line, fault));
-        }
+        part.write(&mut numbers, crossings)
+            .map_err(|fault| Error::Line(part.line, fault))?;
     }
     Ok(numbers)
 }

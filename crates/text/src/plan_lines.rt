@@ -1,9 +1,8 @@
 // A plan as text: the round, its length and the parts of the sheet.
-ghost use Rattle.std.specs.Prelude.{◌≡◌, ◌+◌, ◌*◌, ◌/◌, ◌<◌, ◌++◌, length, IfOk, string_bytes, OnOk, nat_lt, slice_index_or};
+ghost use Rattle.std.specs.Prelude.{◌≡◌, ◌++◌, IfOk, string_bytes, OnOk, nat_lt};
 ghost use Rattle.std.specs.List.{flat_map};
 ghost use Rattle.road.specs.Numbers.{leg_in, legs_in};
 ghost use Rattle.sheet.specs.Numbers.{marks_in, sheet_in};
-ghost use Rattle.sheet.specs.Sheet.{no_part};
 ghost use Rattle.text.specs.Plans.{leg_text, round_line, length_line, mark_text, marks_text, part_in, part_line, planned_text};
 
 use std::alloc::{AllocError, Global};
@@ -72,29 +71,6 @@ fn write_part(out: &mut String, weight: u64, marks: &[u64]) -> Result<(), AllocE
     write!(out, "\n")
 }
 
-// Where part i of a sheet begins.
-fn part_begin(crossings: usize, numbers: &[u64], i: usize) -> usize
-    requires { i < length numbers.now / (1 + crossings) }
-    ensures is { result ≡ i * (1 + crossings) }
-    ensures room { result + crossings < length numbers.now }
-{
-    i * (1 + crossings)
-}
-
-// Part i of a sheet.
-fn write_part_at(
-    out: &mut String,
-    crossings: usize,
-    numbers: &[u64],
-    i: usize,
-) -> Result<(), AllocError>
-    requires { i < length numbers.now / (1 + crossings) }
-    ensures { OnOk result (string_bytes out.new ≡ string_bytes out.old ++ part_line (slice_index_or (sheet_in crossings numbers.now) i no_part)) }
-{
-    let at = part_begin(crossings, numbers, i);
-    write_part(out, numbers[at], &numbers[at + 1..][..crossings])
-}
-
 // The parts of a sheet; a part of 2^64 numbers would be longer than any list.
 fn write_parts(out: &mut String, crossings: usize, numbers: &[u64]) -> Result<(), AllocError>
     ensures { OnOk result (string_bytes out.new ≡ string_bytes out.old ++ flat_map part_line (sheet_in crossings numbers.now)) }
@@ -102,39 +78,37 @@ fn write_parts(out: &mut String, crossings: usize, numbers: &[u64]) -> Result<()
     let Some(width) = crossings.checked_add(1) else {
         return Ok(());
     };
-    for i in 0..numbers.len() / width {
-        write_part_at(out, crossings, numbers, i)?;
+    for part in numbers.chunks_exact(width) {
+        write_part(out, part[0], &part[1..])?;
     }
     Ok(())
 }
 
-fn write_plan(
-    out: &mut String,
-    crossings: usize,
-    legs: &[u64],
-    parts: &[u64],
-    long: u64,
-    all: u64,
-) -> Result<(), AllocError>
-    ensures { OnOk result (string_bytes out.new ≡ string_bytes out.old ++ planned_text (legs_in legs.now) long all (sheet_in crossings parts.now)) }
-{
-    write_round(out, legs)?;
-    write_length(out, long, all)?;
-    write_parts(out, crossings, parts)
+// A plan in numbers: its legs, its parts in a town of so many crossings, the length of its round and that of all streets.
+#[derive(Clone, Copy)]
+pub struct PlanNumbers<'a> {
+    pub crossings: u64,
+    pub legs: &'a [u64],
+    pub parts: &'a [u64],
+    pub long: u64,
+    pub all: u64,
 }
 
-// The text of a round, of its length beside that of all streets, and of a sheet, all given as numbers.
-pub fn plan_text(
-    heap: Global,
-    crossings: u64,
-    legs: &[u64],
-    parts: &[u64],
-    long: u64,
-    all: u64,
-) -> Result<String, AllocError>
-    ensures { IfOk result (λ s. string_bytes s ≡ planned_text (legs_in legs.now) long all (sheet_in crossings parts.now)) }
+impl PlanNumbers<'_> {
+    fn write(&self, out: &mut String) -> Result<(), AllocError>
+        ensures { OnOk result (string_bytes out.new ≡ string_bytes out.old ++ planned_text (legs_in self.now.legs.now) self.now.long self.now.all (sheet_in self.now.crossings self.now.parts.now)) }
+    {
+        write_round(out, self.legs)?;
+        write_length(out, self.long, self.all)?;
+        write_parts(out, self.crossings as usize, self.parts)
+    }
+}
+
+// The text of a plan: its round, its length beside that of all streets, and its sheet.
+pub fn plan_text(heap: Global, plan: &PlanNumbers) -> Result<String, AllocError>
+    ensures { IfOk result (λ s. string_bytes s ≡ planned_text (legs_in plan.now.legs.now) plan.now.long plan.now.all (sheet_in plan.now.crossings plan.now.parts.now)) }
 {
     let mut out = String::new(heap);
-    write_plan(&mut out, crossings as usize, legs, parts, long, all)?;
+    plan.write(&mut out)?;
     Ok(out)
 }

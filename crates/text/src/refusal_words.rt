@@ -5,10 +5,11 @@ ghost use Rattle.road.specs.Refusals.{listed};
 use road::Refusal;
 use std::fmt;
 
+// A type of its own, since the refusal's own crate has no words for it and needs none.
 #[derive(Clone, Copy)]
 pub struct RefusalWords(pub Refusal);
 
-// The number and the place of a refusal.
+// The number and the place of a refusal, as a pair, since `listed` gives a pair and a struct would only say it twice.
 pub fn numbered(refusal: Refusal) -> (u64, u64)
     ensures { result ≡ listed refusal }
 {

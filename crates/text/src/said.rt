@@ -1,5 +1,4 @@
 // The checker's word, as it is printed.
-use crate::RefusalWords;
 use road::Fault;
 use sheet::{SheetFault, Word};
 use std::fmt;
@@ -12,16 +11,11 @@ impl fmt::Display for Said {
         match self.0 {
             Word::Shortest(length) => write!(f, "shortest {length}"),
             Word::Apart(length, bound) => write!(f, "apart {length} and {bound}"),
-            Word::NoRound(fault) => match fault {
-                Fault::Leg(i) => write!(f, "no round at leg {i}"),
-                Fault::Home => f.write_str("no round home"),
-                Fault::Street(k) => write!(f, "no round street {k}"),
-            },
-            Word::NoSheet(fault) => match fault {
-                SheetFault::Part(i) => write!(f, "no sheet at part {i}"),
-                SheetFault::Street(k) => write!(f, "no sheet at street {k}"),
-            },
-            Word::Refused(refusal) => write!(f, "{}", RefusalWords(refusal)),
+            Word::NoRound(Fault::Leg(i)) => write!(f, "no round at leg {i}"),
+            Word::NoRound(Fault::Home) => f.write_str("no round home"),
+            Word::NoRound(Fault::Street(k)) => write!(f, "no round street {k}"),
+            Word::NoSheet(SheetFault::Part(i)) => write!(f, "no sheet at part {i}"),
+            Word::NoSheet(SheetFault::Street(k)) => write!(f, "no sheet at street {k}"),
         }
     }
 }

@@ -6,8 +6,8 @@ ghost use Rattle.sheet.specs.Words.{said};
 ghost use Rattle.text.specs.Texts.{town_of, no_town, word_of};
 
 use crate::Error;
-use crate::lines::Lines;
-use crate::part_line::numbers;
+use crate::lines::{Lines, RoundLines, TownLines};
+use crate::part_line::parts_as_numbers;
 use road::{Refusal, Town};
 use sheet::{Word, check_round};
 use std::alloc::Global;
@@ -29,7 +29,7 @@ pub struct RoundText {
 impl TownText {
     // Reads a town, and nothing else.
     pub fn read(heap: Global, text: &str) -> Result<TownText, Error> {
-        let mut lines = Lines::new(heap, false);
+        let mut lines = TownLines::new(heap);
         lines.read(heap, text)?;
         lines.town()
     }
@@ -45,18 +45,16 @@ impl TownText {
 impl RoundText {
     // Reads a town, a round in it and a sheet.
     pub fn read(heap: Global, text: &str) -> Result<RoundText, Error> {
-        let mut lines = Lines::new(heap, true);
+        let mut lines = RoundLines::new(heap);
         lines.read(heap, text)?;
-        let legs = lines.round.take();
-        let parts = std::mem::replace(&mut lines.parts, Vec::new(heap));
-        let town = lines.town()?;
-        let legs = legs.ok_or(Error::NoRound)?;
-        let parts = numbers(heap, parts.as_slice(), town.crossings)?;
+        let town = lines.town.town()?;
+        let legs = lines.round.ok_or(Error::NoRound)?;
+        let parts = parts_as_numbers(heap, lines.parts.as_slice(), town.crossings)?;
         Ok(RoundText { town, legs, parts })
     }
 
-    // The checker's word on them.
-    pub fn word(&self) -> Word
+    // The checker's word on them, or a refusal.
+    pub fn word(&self) -> Result<Word, Refusal>
         ensures { said result ≡ word_of self.now }
     {
         check_round(

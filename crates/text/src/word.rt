@@ -28,3 +28,15 @@ pub(crate) fn leg(word: &str) -> Option<u64> {
         None => leg_number(number(word)?, false),
     }
 }
+
+// The numbers that so many words write.
+pub(crate) fn numbers<const N: usize>(words: &[&str]) -> Option<[u64; N]> {
+    if words.len() != N {
+        return None;
+    }
+    let mut numbers = [0; N];
+    for (x, word) in numbers.iter_mut().zip(words) {
+        *x = number(word)?;
+    }
+    Some(numbers)
+}
