@@ -6,10 +6,10 @@ use Rattle.road.specs.Model.{marked}
 use Rattle.join.specs.declared.level.Level.{Level}
 use Rattle.join.specs.declared.partition.Classes.{Classes}
 use Rattle.join.specs.declared.prices.Prices.{Prices}
-use Rattle.join.specs.declared.problem.Problem.{Problem}
 use Rattle.join.specs.declared.turn.Stage.{Stage}
 use Rattle.join.specs.Joins.{out}
-use Rattle.join.specs.Prices.{town_in, costs_in, start_in, reached_in, extra_in, price_in, Priced}
+use Rattle.join.specs.Problems.{town_in, costs_in, start_in, reached_in}
+use Rattle.join.specs.Prices.{extra_in, price_in}
 use Rattle.join.specs.Turns.{lengths_at, potential_at}
 use Rattle.join.specs.Certified.{no_stage, class_at, charge_at, street_charge, crossing_charge}
 use Rattle.join.specs.Passes.{lengths_after, potentials_after, AllStaged, Run, ShowsLeast}
@@ -28,46 +28,46 @@ xor_not false b e = at b e
     at true e = refl
     at false e = absurd (both_ways false refl e)
 
-module _ (p : Problem) (q : Prices) (c : Classes) (ss : List Stage) (staged : AllStaged p q c ss (length ss)) where
+module _ (q : Prices) (c : Classes) (ss : List Stage) (staged : AllStaged q c ss (length ss)) where
   -- what stages leave of a length, and what they charge the street, are its cost
-  lengths_sum : (n : ℕ) → n ≤ length ss → (k : ℕ) → k < size (town_in p) → lengths_after (town_in p) (costs_in p) ss n k + street_charge (town_in p) ss n k ≡ costs_in p k
+  lengths_sum : (n : ℕ) → n ≤ length ss → (k : ℕ) → k < size (town_in q.problem) → lengths_after (town_in q.problem) (costs_in q.problem) ss n k + street_charge (town_in q.problem) ss n k ≡ costs_in q.problem k
   unfolding lengths_after sum
   lengths_sum zero h k i = omega arith
   lengths_sum (suc n) h k i =
-      let l = lengths_after (town_in p) (costs_in p) ss n in
+      let l = lengths_after (town_in q.problem) (costs_in q.problem) ss n in
       let r = lengths_sum n (omega arith) k i in
-      let b = back_at (cut (town_in p) (class_at ss n) k) (l k) (charge_at ss n) ((staged n (omega arith)).streets k i) in
+      let b = back_at (cut (town_in q.problem) (class_at ss n) k) (l k) (charge_at ss n) ((staged n (omega arith)).streets k i) in
       omega arith
 
   -- so for the potential of a crossing that can be come to, and its price
-  potentials_sum : (n : ℕ) → n ≤ length ss → (u : ℕ) → reached_in p u ≡ true → potentials_after (reached_in p) (price_in q) ss n u + crossing_charge ss n u ≡ price_in q u
+  potentials_sum : (n : ℕ) → n ≤ length ss → (u : ℕ) → reached_in q.problem u ≡ true → potentials_after (reached_in q.problem) (price_in q) ss n u + crossing_charge ss n u ≡ price_in q u
   unfolding potentials_after sum
   potentials_sum zero h u m = omega arith
   potentials_sum (suc n) h u m =
-      let g = potentials_after (reached_in p) (price_in q) ss n in
+      let g = potentials_after (reached_in q.problem) (price_in q) ss n in
       let Z = class_at ss n in
       let r = potentials_sum n (omega arith) u m in
       let b = back_at (not (Z u)) (g u) (charge_at ss n) (λ o. (staged n (omega arith)).crossings u m (not-true (Z u) o)) in
       let e = ap (λ a. when (a && not (Z u)) (charge_at ss n)) m in
       omega arith
 
-pub certify : (p : Problem) (q : Prices) (c : Classes) (ss : List Stage) (v : Level) → Priced p q → Run p q c ss v → ((u : ℕ) → reached_in p u ≡ true → potential_at v u ≡ 0) → ShowsLeast p q ss
-certify p q c ss v d r none = record {
+pub certify : (q : Prices) (c : Classes) (ss : List Stage) (v : Level) → Run q c ss v → ((u : ℕ) → reached_in q.problem u ≡ true → potential_at v u ≡ 0) → ShowsLeast q ss
+certify q c ss v r none = record {
   certified = record {
-    joins = d.joins;
-    costs = λ u h. sym (d.costs u h);
+    joins = q.joins;
+    costs = λ u h. sym (q.costs u h);
     odd = λ i h.
         let s = r.staged i h in
-        xor_not (out (town_in p) (marked p.required.now) (class_at ss i)) (class_at ss i p.town.now.depot)
-        (border (town_in p) (start_in p) _ _ (get_or ss i no_stage).base (class_at ss i) (charge_at ss i) (extra_in q (get_or ss i no_stage).base) s.stage s.base);
-    bears = λ k h. omega (arith, lengths_sum p q c ss r.staged (length ss) (omega arith) k h);
-    sums = λ u h. omega (arith, potentials_sum p q c ss r.staged (length ss) (omega arith) u h, ap (λ g. g u) r.after.crossings, none u h);
+        xor_not (out (town_in q.problem) (marked q.problem.required.now) (class_at ss i)) (class_at ss i q.problem.town.now.depot)
+        (border (town_in q.problem) (start_in q.problem) _ _ (get_or ss i no_stage).base (class_at ss i) (charge_at ss i) (extra_in q (get_or ss i no_stage).base) s.stage s.base);
+    bears = λ k h. omega (arith, lengths_sum q c ss r.staged (length ss) (omega arith) k h);
+    sums = λ u h. omega (arith, potentials_sum q c ss r.staged (length ss) (omega arith) u h, ap (λ g. g u) r.after.crossings, none u h);
     some = λ i h. (r.staged i h).some;
-    few = omega (arith, progress_most (town_in p) (lengths_at v) (potential_at v) c (length ss) r.progress);
+    few = omega (arith, progress_most (town_in q.problem) (lengths_at v) (potential_at v) c (length ss) r.progress);
   };
-  whole = λ i h. (r.staged i h).whole;
   most = λ i h.
       let s = r.staged i h in
-      let k = s.leads.0 in
-      (k, s.leads.1, omega (arith, s.streets k s.leads.1 s.leads.2, lengths_low (town_in p) (costs_in p) ss i k));
+      let d = r.cuts i h in
+      let k = d.0 in
+      (k, d.1, omega (arith, s.streets k d.1 d.2, lengths_low (town_in q.problem) (costs_in q.problem) ss i k));
 }

@@ -1,8 +1,8 @@
 -- All streets of a sound town, at twice their length. Assumes nothing.
-use Rattle.std.proofs.Common.{◌≡◌, ℕ, ◌+◌, ◌<◌, ◌≤◌, Bool, true, false, ltb, List, length, set, replicate, is_some, Some, None, Option, sym, refl, ap, ◌∙◌, subst, ⊎_elim, arith}
+use Rattle.std.proofs.Common.{◌≡◌, ℕ, ◌<◌, ◌≤◌, Bool, true, false, ltb, List, length, is_some, Some, None, Option, sym, refl, ap, ◌∙◌, subst, ⊎_elim, arith}
 use Rattle.std.specs.Option.{option_map}
-use Rattle.std.proofs.lemmas.List.{length-set, length-replicate, get_or-set_same, get_or-set_other}
-use Rattle.std.proofs.lemmas.Bool.{cases_eq, cases_lt, cases_Bool, both_ways, lt-ltb, ltb-true}
+use Rattle.std.proofs.lemmas.List.{get_or_past}
+use Rattle.std.proofs.lemmas.Bool.{cases_lt, cases_Bool, both_ways, lt-ltb, ltb-true}
 use Rattle.road.specs.Roads as roads
 use Rattle.road.specs.Counts.{size, one, two, cut, all}
 use Rattle.road.specs.Reach.{reached}
@@ -18,9 +18,9 @@ use Rattle.join.specs.declared.prices.Prices.{Prices}
 use Rattle.join.specs.declared.problem.Problem.{Problem}
 use Rattle.join.specs.declared.turn.Stage.{Stage}
 use Rattle.join.specs.Certified.{double, charge_at, Certified}
-use Rattle.join.specs.Prices.{town_in, costs_in, reached_in, price_in, extra_in}
+use Rattle.join.specs.Problems.{town_in, costs_in, reached_in}
+use Rattle.join.specs.Prices.{price_in, extra_in}
 use Rattle.join.specs.Passes.{ShowsLeast}
-use Rattle.join.proofs.StreetSets.{marked_none}
 use Rattle.join.proofs.Certificates.{certified_all}
 
 -- twice a length is not much
@@ -43,10 +43,7 @@ come_below t u h =
         let w = t.within k h in
         rw (lt-ltb (one (model t) k) t.crossings (omega (arith, ap (λ s. s.one) e, w.0)), lt-ltb (two (model t) k) t.crossings (omega (arith, ap (λ s. s.two) e, w.1))) refl
 
--- both ends of a street of a sound town can be come to
-pub come_one : (s : SoundTown) (k : ℕ) → k < size (model s.town) → reached (model s.town) s.town.depot (one (model s.town) k) ≡ true
-come_one s k h = s.reached k h
-
+-- the far end of a street of a sound town can be come to
 pub come_two : (s : SoundTown) (k : ℕ) → k < size (model s.town) → reached (model s.town) s.town.depot (two (model s.town) k) ≡ true
 come_two s k h =
     sym (xor_same (reached (model s.town) s.town.depot (one (model s.town) k)) (reached (model s.town) s.town.depot (two (model s.town) k))
@@ -62,9 +59,9 @@ way_some None e = absurd (both_ways false refl e)
 way_some (Some w) e = (w, refl)
 
 -- no class is charged more than a street costs
-pub charge_small : (p : Problem) (q : Prices) (ss : List Stage) → ShowsLeast p q ss → costs_in p ≡ double (town_in p) → (i : ℕ) → i < length ss → charge_at ss i ≤ 10000000
-charge_small p q ss s e i h =
-    let m = s.most i h in
+pub charge_small : (p : Problem) (q : Prices) (ss : List Stage) → q.problem ≡ p → ShowsLeast q ss → costs_in p ≡ double (town_in p) → (i : ℕ) → i < length ss → charge_at ss i ≤ 10000000
+charge_small p q ss same s e i h =
+    let m = subst (λ p. (k : ℕ) × (k < size (town_in p)) × (charge_at ss i ≤ costs_in p k)) same (s.most i h) in
     omega (arith, m.2, ap (λ c. c m.0) e, double_most p.town.now m.0)
 
 -- a test for a way, through what is lent
@@ -72,39 +69,20 @@ pub some_lent : {A B : Type 0} (f : A → B) (o : Option A) → is_some (option_
 some_lent f None = refl
 some_lent f (Some x) = refl
 
--- the crossings are looked at one by one
-pub record Looked (t : Town) (ms : List Bool) (n : ℕ) : Type 0 where
-  pub long : length ms ≡ 100
-  pub done : (u : ℕ) → u < n → marked ms u ≡ reached (model t) t.depot u
-  pub left : (u : ℕ) → n ≤ u → marked ms u ≡ false
+-- what is past the crossings is not come to
+pub come_past : (t : Town) (u : ℕ) → t.crossings ≤ u → reached (model t) t.depot u ≡ false
+come_past t u le = ⊎_elim (λ y. absurd (omega (arith, come_below t u y))) (λ n. n) (cases_Bool (reached (model t) t.depot u))
 
-pub looked_none : (t : Town) (ms : List Bool) → ms ≡ replicate 100 false → Looked t ms 0
-looked_none t ms e = record {
-  long = ap length e ∙ length-replicate 100 false;
-  done = λ u h. absurd (omega arith);
-  left = λ u _. ap (λ xs. marked xs u) e ∙ ap (λ f. f u) (marked_none 100);
-}
-
-pub looked_more : (t : Town) (ms : List Bool) (n : ℕ) (b : Bool) → n < 100 → Looked t ms n → b ≡ reached (model t) t.depot n → Looked t (set ms n b) (n + 1)
-looked_more t ms n b h p e = record {
-  long = length-set ms n b ∙ p.long;
-  done = λ u lt. ⊎_elim
-      (λ q. ap (marked (set ms n b)) q ∙ get_or-set_same ms n b false (omega (arith, p.long)) ∙ e ∙ ap (reached (model t) t.depot) (sym q))
-      (λ ne. get_or-set_other ms n u b false ne ∙ p.done u (omega arith))
-      (cases_eq u n);
-  left = λ u le. get_or-set_other ms n u b false (λ q. omega arith) ∙ p.left u (omega arith);
-}
-
-pub looked_all : (t : Town) (ms : List Bool) → Looked t ms t.crossings → (u : ℕ) → marked ms u ≡ reached (model t) t.depot u
-looked_all t ms p u = ⊎_elim
-    (p.done u)
-    (λ ge. p.left u ge ∙ sym (⊎_elim (λ y. absurd (omega (arith, come_below t u y))) (λ n. n) (cases_Bool (reached (model t) t.depot u))))
-    (cases_lt u t.crossings)
+-- the marks of what can be come to
+pub come_marks : (t : Town) (ms : List Bool) → length ms ≡ 100 → ((u : ℕ) → u < 100 → marked ms u ≡ reached (model t) t.depot u) → (u : ℕ) → marked ms u ≡ reached (model t) t.depot u
+come_marks t ms long low u =
+    ⊎_elim (low u) (λ le. get_or_past ms u false (omega arith) ∙ sym (come_past t u (omega (arith, t.most)))) (cases_lt u 100)
 
 -- what is shown of a problem with all streets at twice their length
-pub certified_double : (p : Problem) (q : Prices) (ss : List Stage) → ShowsLeast p q ss → costs_in p ≡ double (town_in p) → ((k : ℕ) → k < 300 → marked p.required.now k ≡ true) →
+pub certified_double : (p : Problem) (q : Prices) (ss : List Stage) → q.problem ≡ p → ShowsLeast q ss → costs_in p ≡ double (town_in p) → ((k : ℕ) → k < 300 → marked p.required.now k ≡ true) →
     Certified (town_in p) all (double (town_in p)) p.town.now.depot (reached_in p) (price_in q) (extra_in q) ss
-certified_double p q ss s e h =
+certified_double p q ss same s e h =
     subst (λ c. Certified (town_in p) all c p.town.now.depot (reached_in p) (price_in q) (extra_in q) ss) e
     (certified_all (town_in p) (marked p.required.now) (costs_in p) p.town.now.depot (reached_in p) (price_in q) (extra_in q) ss
-    (λ k i. h k (omega (arith, size_model p.town.now, p.town.now.few))) s.certified)
+    (λ k i. h k (omega (arith, size_model p.town.now, p.town.now.few)))
+    (subst (λ p. Certified (town_in p) (marked p.required.now) (costs_in p) p.town.now.depot (reached_in p) (price_in q) (extra_in q) ss) same s.certified))

@@ -8,7 +8,7 @@ use Rattle.join.specs.declared.circuit.Circuit as code
 use Rattle.join.specs.Joins.{◌⊞◌, single, Joins, cost, outs, shorter}
 use Rattle.join.specs.Exchange.{Exit, Stage, Circuit, circuit, go_out}
 use Rattle.join.specs.declared.problem.Problem.{Problem}
-use Rattle.join.specs.Prices.{town_in, reached_in}
+use Rattle.join.specs.Problems.{town_in, reached_in}
 use Rattle.join.specs.Potentials.{Cheaper, lower}
 use Rattle.join.specs.Circuits.{Closes}
 use Rattle.join.specs.Outcomes.{Inner, Over}

@@ -8,11 +8,11 @@ use Rattle.road.proofs.Cuts.{side_turn}
 use Rattle.join.specs.declared.level.Level.{Level}
 use Rattle.join.specs.declared.partition.Classes.{Classes}
 use Rattle.join.specs.declared.prices.Prices.{Prices}
-use Rattle.join.specs.declared.problem.Problem.{Problem}
 use Rattle.join.specs.Joins.{◌⊞◌, single, cost, Zero, Class, Room}
 use Rattle.join.specs.Exchange.{Exit}
 use Rattle.join.specs.Weights.{inner, outer}
-use Rattle.join.specs.Prices.{town_in, start_in, reached_in, extra_in}
+use Rattle.join.specs.Problems.{town_in, start_in, reached_in}
+use Rattle.join.specs.Prices.{extra_in}
 use Rattle.join.specs.Classes.{Classed, Merged, class_in, way_in}
 use Rattle.join.specs.Potentials.{Cheaper, Lowest, slack, Tightest}
 use Rattle.join.specs.Turns.{lengths_at, potential_at, Pass, Charged}
@@ -25,16 +25,16 @@ pub none_cut : (all : Bool) (c : Bool) → all ≡ true → (c ≡ true → all 
 none_cut all true e h = absurd (both_ways all (h refl) e)
 none_cut all false e h = refl
 
-module _ (p : Problem) (q : Prices) (v : Level) (c : Classes) (b : ℕ) (s : Pass p q v) (cs : Classed (town_in p) (lengths_at v) c)
-    (m : Merged (town_in p) (lengths_at v) c p.town.now.count) (low : Lowest (reached_in p) (potential_at v) b) (hb : b < 100) where
+module _ (q : Prices) (v : Level) (c : Classes) (b : ℕ) (s : Pass q v) (cs : Classed (town_in q.problem) (lengths_at v) c)
+    (m : Merged (town_in q.problem) (lengths_at v) c q.problem.town.now.count) (low : Lowest (reached_in q.problem) (potential_at v) b) (hb : b < 100) where
   abbrev t : Town
-  t = town_in p
+  t = town_in q.problem
 
   abbrev T : Set → Bool
-  T = start_in p
+  T = start_in q.problem
 
   abbrev In : Set
-  In = reached_in p
+  In = reached_in q.problem
 
   abbrev l : ℕ → ℕ
   l = lengths_at v
@@ -46,15 +46,15 @@ module _ (p : Problem) (q : Prices) (v : Level) (c : Classes) (b : ℕ) (s : Pas
   K = extra_in q
 
   the_class : Class t l b (class_in c b)
-  the_class = class_is t l c b (ends_below p.town.now) cs (λ k h. m k (omega (arith, size_model p.town.now))) hb
+  the_class = class_is t l c b (ends_below q.problem.town.now) cs (λ k h. m k (omega (arith, size_model q.problem.town.now))) hb
 
-  inside : (k : ℕ) → k < p.town.now.count → k < size t
-  inside k h = omega (arith, size_model p.town.now)
+  inside : (k : ℕ) → k < q.problem.town.now.count → k < size t
+  inside k h = omega (arith, size_model q.problem.town.now)
 
   -- no street leads out, and the set for b has a street with a length
-  pub inside_better : ((k : ℕ) → k < size (town_in p) → cut (town_in p) (class_in c b) k ≡ false) → (k x y : ℕ) → k < p.town.now.count → extra_in q b k ≡ true → 0 < lengths_at v k →
-      x ≡ one (town_in p) k → y ≡ two (town_in p) k → (H R J : Set) → H ≡ (extra_in q b ⊞ (way_in c b ⊞ way_in c x)) ⊞ single k → R ≡ way_in c b ⊞ way_in c y → J ≡ H ⊞ R →
-      Cheaper (town_in p) (start_in p) (reached_in p) (lengths_at v) (potential_at v) b J
+  pub inside_better : ((k : ℕ) → k < size (town_in q.problem) → cut (town_in q.problem) (class_in c b) k ≡ false) → (k x y : ℕ) → k < q.problem.town.now.count → extra_in q b k ≡ true → 0 < lengths_at v k →
+      x ≡ one (town_in q.problem) k → y ≡ two (town_in q.problem) k → (H R J : Set) → H ≡ (extra_in q b ⊞ (way_in c b ⊞ way_in c x)) ⊞ single k → R ≡ way_in c b ⊞ way_in c y → J ≡ H ⊞ R →
+      Cheaper (town_in q.problem) (start_in q.problem) (reached_in q.problem) (lengths_at v) (potential_at v) b J
   inside_better none k x y h own pos ex ey H R J eH eR eJ =
       let h' = inside k h in
       let sd : Side t k x y = subst (λ u. Side t k u y) (sym ex) (subst (λ u. Side t k (one t k) u) (sym ey) forth) in
@@ -73,8 +73,8 @@ module _ (p : Problem) (q : Prices) (v : Level) (c : Classes) (b : ℕ) (s : Pas
       ends_y h' sd = s.level.ends k y x h' (side_turn t k x y sd)
 
   -- and it has none: no potential is left
-  pub inside_done : potential_at v b ≤ cost (town_in p) (lengths_at v) (extra_in q b) → ((k : ℕ) → k < size (town_in p) → cut (town_in p) (class_in c b) k ≡ false) →
-      Zero (town_in p) (lengths_at v) (extra_in q b) → (u : ℕ) → reached_in p u ≡ true → potential_at v u ≡ 0
+  pub inside_done : potential_at v b ≤ cost (town_in q.problem) (lengths_at v) (extra_in q b) → ((k : ℕ) → k < size (town_in q.problem) → cut (town_in q.problem) (class_in c b) k ≡ false) →
+      Zero (town_in q.problem) (lengths_at v) (extra_in q b) → (u : ℕ) → reached_in q.problem u ≡ true → potential_at v u ≡ 0
   inside_done high none z = stages.done t T In l g K s.level b (class_in c b) the_class low high none z
 
   module _ (Z : Set) (eZ : Z ≡ class_in c b) where
@@ -82,8 +82,8 @@ module _ (p : Problem) (q : Prices) (v : Level) (c : Classes) (b : ℕ) (s : Pas
     class_Z = subst (Class t l b) (sym eZ) the_class
 
     -- the set for b has a street out
-    pub look_better : (k x y : ℕ) → (k < p.town.now.count) × (extra_in q b k ≡ true) × (cut (town_in p) Z k ≡ true) → x ≡ inner (town_in p) Z k → y ≡ outer (town_in p) Z k →
-        (J : Set) → J ≡ (extra_in q b ⊞ (way_in c b ⊞ way_in c x)) ⊞ single k → Cheaper (town_in p) (start_in p) (reached_in p) (lengths_at v) (potential_at v) y J
+    pub look_better : (k x y : ℕ) → (k < q.problem.town.now.count) × (extra_in q b k ≡ true) × (cut (town_in q.problem) Z k ≡ true) → x ≡ inner (town_in q.problem) Z k → y ≡ outer (town_in q.problem) Z k →
+        (J : Set) → J ≡ (extra_in q b ⊞ (way_in c b ⊞ way_in c x)) ⊞ single k → Cheaper (town_in q.problem) (start_in q.problem) (reached_in q.problem) (lengths_at v) (potential_at v) y J
     look_better k x y d ex ey J eJ =
         let e = stages.cut_ends t Z k d.2 in
         let sd : Side t k x y = subst (λ u. Side t k u y) (sym ex) (subst (λ u. Side t k (inner t Z k) u) (sym ey) e.0) in
@@ -94,16 +94,16 @@ module _ (p : Problem) (q : Prices) (v : Level) (c : Classes) (b : ℕ) (s : Pas
         (stages.better_over t T In l g K s.level b Z class_Z low k x y (way_in c b ⊞ way_in c x) dr w.0 w.1)
 
     -- there is room
-    pub look_room : Room (town_in p) (lengths_at v) (potential_at v) b Z 1
+    pub look_room : Room (town_in q.problem) (lengths_at v) (potential_at v) b Z 1
     look_room k x y h sd px py = omega (arith, stages.room_two t T In l g K s.level b Z class_Z low k x y h sd px py)
 
     -- the class is charged
-    pub look_charge : (k : ℕ) → potential_at v b ≤ cost (town_in p) (lengths_at v) (extra_in q b) → ((j : ℕ) → j < size (town_in p) → cut (town_in p) Z j ≡ true → extra_in q b j ≡ false) →
-        Tightest (town_in p) (lengths_at v) (potential_at v) b Z p.town.now.count k → 1 ≤ slack (town_in p) (lengths_at v) (potential_at v) b Z k →
-        Charged (town_in p) (start_in p) (reached_in p) (lengths_at v) (potential_at v) (extra_in q) Z (slack (town_in p) (lengths_at v) (potential_at v) b Z k) b
+    pub look_charge : (k : ℕ) → potential_at v b ≤ cost (town_in q.problem) (lengths_at v) (extra_in q b) → ((j : ℕ) → j < size (town_in q.problem) → cut (town_in q.problem) Z j ≡ true → extra_in q b j ≡ false) →
+        Tightest (town_in q.problem) (lengths_at v) (potential_at v) b Z q.problem.town.now.count k → 1 ≤ slack (town_in q.problem) (lengths_at v) (potential_at v) b Z k →
+        Charged (town_in q.problem) (start_in q.problem) (reached_in q.problem) (lengths_at v) (potential_at v) (extra_in q) Z (slack (town_in q.problem) (lengths_at v) (potential_at v) b Z k) b
     look_charge k high clear tight some = record {
       stage = stages.stage t T In l g K s.level b Z class_Z low (slack t l g b Z k) high
-          (stages.room_of t l g b Z (slack t l g b Z k) look_room (λ j h u. tight.least j (omega (arith, size_model p.town.now)) u)) clear;
+          (stages.room_of t l g b Z (slack t l g b Z k) look_room (λ j h u. tight.least j (omega (arith, size_model q.problem.town.now)) u)) clear;
       class = class_Z;
       lowest = low;
       some = some;

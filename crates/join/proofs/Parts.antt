@@ -9,11 +9,11 @@ use Rattle.road.proofs.Sums.{sum_front}
 use Rattle.sheet.specs.Sheet.{Part, no_part, load, weights, leads_out, ways_out}
 use Rattle.join.specs.declared.least.LeastDrives.{LeastDrives}
 use Rattle.join.specs.declared.turn.Stage.{Stage}
-use Rattle.join.specs.Amounts.{amount, number}
+use Rattle.join.specs.Amounts.{amount}
 use Rattle.join.specs.Joins.{out}
 use Rattle.join.specs.Extra.{Inside}
 use Rattle.join.specs.Certified.{no_stage, class_at, street_charge, crossing_charge, sheet_of, double, Certified}
-use Rattle.join.specs.Laws.{SheetAgrees, town_of, depot_of, extra_of, LeastDrivesShow}
+use Rattle.join.specs.Laws.{SheetAgrees, town_of, depot_of, extra_of, LeastDrivesShow, prices_of}
 use Rattle.join.proofs.Certificates.{price_least}
 use Rattle.join.proofs.Cost.{cost_double}
 use Rattle.join.proofs.Marks.{marks_odd, marks_load}
@@ -94,7 +94,7 @@ sheet_agrees t r In f K ss inside shown home =
     )
 
 -- the ghost fields together
-shown : (s : LeastDrives) → Certified (town_of s) all (double (town_of s)) (depot_of s) (marked s.reached) (number s.price) (extra_of s) (vec_items s.stages)
+shown : (s : LeastDrives) → Certified (town_of s) all (double (town_of s)) (depot_of s) (marked s.reached) (prices_of s) (extra_of s) (vec_items s.stages)
 shown s = record { joins = s.joins; costs = s.costs; odd = s.odd; bears = s.bears; sums = s.sums; some = s.some; few = s.few }
 
 pub least_drives : LeastDrivesShow
@@ -102,11 +102,11 @@ least_drives s =
     let t = town_of s in
     let r = depot_of s in
     let home = s.found r ∙ reached_start t r in
-    let a = sheet_agrees t r (marked s.reached) (number s.price) (extra_of s) (vec_items s.stages) (inside_model s.town.now.town) (shown s) home in
+    let a = sheet_agrees t r (marked s.reached) (prices_of s) (extra_of s) (vec_items s.stages) (inside_model s.town.now.town) (shown s) home in
     record {
       come = λ u. (λ e. reached_way t r u (sym (s.found u) ∙ e), λ d. s.found u ∙ drive_reached t r u d.0 d.1);
       certified = shown s;
-      least = price_least t all (double t) r (marked s.reached) (number s.price) (extra_of s) (vec_items s.stages) (shown s);
+      least = price_least t all (double t) r (marked s.reached) (prices_of s) (extra_of s) (vec_items s.stages) (shown s);
       sheet = a.0;
       agrees = a.1;
       few = omega (arith, a.2, s.few);

@@ -1,15 +1,14 @@
 -- Stages in the reverse order show the same. Assumes nothing.
-use Rattle.std.proofs.Common.{◌≡◌, ℕ, zero, suc, ◌+◌, ◌-◌, ◌<◌, ◌≤◌, not, List, reverse, length, get_or, pos, sym, refl, ap, ◌∙◌, subst, ap₂, arith}
+use Rattle.std.proofs.Common.{◌≡◌, ℕ, zero, suc, ◌+◌, ◌-◌, ◌<◌, ◌≤◌, not, List, reverse, length, get_or, sym, refl, ap, ◌∙◌, subst, ap₂, arith}
 use Rattle.std.proofs.lemmas.List.{length-reverse, get_or-reverse}
 use Rattle.road.specs.Counts.{when, sum, size, cut}
 use Rattle.road.specs.Model.{marked}
 use Rattle.road.proofs.Sums.{sum_ext, sum_front}
 use Rattle.join.specs.declared.prices.Prices.{Prices}
-use Rattle.join.specs.declared.problem.Problem.{Problem}
 use Rattle.join.specs.declared.turn.Stage.{Stage}
 use Rattle.join.specs.Joins.{out}
 use Rattle.join.specs.Amounts.{amount}
-use Rattle.join.specs.Prices.{town_in, costs_in}
+use Rattle.join.specs.Problems.{town_in, costs_in}
 use Rattle.join.specs.Certified.{no_stage}
 use Rattle.join.specs.Passes.{ShowsLeast}
 
@@ -42,12 +41,12 @@ module _ (ss ss' : List Stage) (e : ss' ≡ reverse ss) where
       let j : i < length ss = omega (arith, long) in
       subst P (sym (turned i j)) (h (length ss - 1 - i) (omega arith))
 
-  pub shows_back : (p : Problem) (q : Prices) → ShowsLeast p q ss → ShowsLeast p q ss'
-  shows_back p q s =
-      let t = town_in p in
+  pub shows_back : (q : Prices) → ShowsLeast q ss → ShowsLeast q ss'
+  shows_back q s =
+      let t = town_in q.problem in
       let c = s.certified in
-      let A = marked p.required.now in
-      let r = p.town.now.depot in
+      let A = marked q.problem.required.now in
+      let r = q.problem.town.now.depot in
       record {
         certified = record {
           joins = c.joins;
@@ -58,6 +57,5 @@ module _ (ss ss' : List Stage) (e : ss' ≡ reverse ss) where
           some = each_back (λ z. 1 ≤ amount z.charge) c.some;
           few = omega (arith, long, c.few);
         };
-        whole = each_back (λ z. z.charge ≡ pos (amount z.charge)) s.whole;
-        most = each_back (λ z. (k : ℕ) × (k < size t) × (amount z.charge ≤ costs_in p k)) s.most;
+        most = each_back (λ z. (k : ℕ) × (k < size t) × (amount z.charge ≤ costs_in q.problem k)) s.most;
       }

@@ -13,6 +13,9 @@ moved_is n r by e = ap amount e
 moves : (m n r : ℕ) (by : ℤ) → pos n +ℤ by ≡ pos r → r ≤ m → Moves m n by
 moves m n r by e le = let q = moved_is n r by e in record { whole = e ∙ ap pos (sym q); most = subst (λ x. x ≤ m) (sym q) le }
 
+pub moves_most : (m r n : ℕ) (by : ℤ) → m ≤ r → Moves m n by → Moves r n by
+moves_most m r n by le s = record { whole = s.whole; most = omega (arith, s.most) }
+
 -- less, and more
 down : (n e : ℕ) (by : ℤ) → by ≡ neg_ℤ (pos e) → e ≤ n → pos n +ℤ by ≡ pos (n - e)
 down n e by q h = omega (arith, ints)
@@ -26,10 +29,7 @@ moves_down m n e by q h le = moves m n (n - e) by (down n e by q h) (omega arith
 pub moves_up : (m n e : ℕ) (by : ℤ) → by ≡ pos e → n + e ≤ m → Moves m n by
 moves_up m n e by q le = moves m n (n + e) by (up n e by q) le
 
--- at a place, and at another
-pub shifted_in : (S : Set) (by : ℤ) (f : ℕ → ℕ) (k : ℕ) → S k ≡ true → shifted S by f k ≡ moved (f k) by
-shifted_in S by f k e = ap (λ b. pick b (moved (f k) by) (f k)) e
-
+-- at another place
 pub shifted_out : (S : Set) (by : ℤ) (f : ℕ → ℕ) (k : ℕ) → S k ≡ false → shifted S by f k ≡ f k
 shifted_out S by f k e = ap (λ b. pick b (moved (f k) by) (f k)) e
 

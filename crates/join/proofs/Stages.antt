@@ -1,6 +1,6 @@
 -- One stage of a pass: what a class can be charged, and what is left after it. Assumes nothing.
 use Rattle.std.proofs.Common.{◌≡◌, ℕ, zero, suc, ◌+◌, ◌-◌, ◌*◌, ◌%◌, ◌<◌, ◌≤◌, Bool, true, false, not, ◌&&◌, eqb, sym, refl, ap, ◌∙◌, ap₂, ⊎_elim, mul-suc, arith}
-use Rattle.std.proofs.lemmas.Bool.{cases_eq, cases_Bool, both_ways, eqb-true, eq-eqb}
+use Rattle.std.proofs.lemmas.Bool.{cases_Bool, both_ways, eqb-true, eq-eqb}
 use Rattle.road.specs.Roads.{Town}
 use Rattle.road.specs.Counts.{◌⊕◌, when, odd, size, one, two, Set, cut, Side, forth, back}
 use Rattle.road.proofs.Parity.{xor_same, xor_self}
@@ -11,7 +11,7 @@ use Rattle.join.proofs.Joins.{out_none, join_on, join_back, join_between, side_j
 use Rattle.join.proofs.Cost.{cost_drop, cost_zero, cost_none, outs_odd, cost_short}
 use Rattle.join.specs.Exchange.{Exit, Stage}
 use Rattle.join.proofs.Exchange.{border, over_joins, over_cost}
-use Rattle.join.specs.Potentials.{Potential, Cheaper, lower, Lowest, slack, Tightest}
+use Rattle.join.specs.Potentials.{Potential, Cheaper, lower, Lowest, slack}
 
 times : (a n : ℕ) → 1 ≤ n → a ≤ a * n
 times a zero h = absurd (omega arith)
@@ -253,21 +253,6 @@ room_of t l g b Z e one low k x y h s p q =
 -- room at a cut street
 pub room_cut : (t : Town) (l g : ℕ → ℕ) (b : ℕ) (Z : Set) (e : ℕ) → Room t l g b Z e → (k : ℕ) → k < size t → cut t Z k ≡ true → g b + 2 * e ≤ g (outer t Z k) + l k
 room_cut t l g b Z e room k h c = let d = cut_ends t Z k c in room k (inner t Z k) (outer t Z k) h d.0 d.1 d.2
-
--- one street more: it leaves less, or it does not
-pub tightest_less : (t : Town) (l g : ℕ → ℕ) (b : ℕ) (Z : Set) (n k : ℕ) → Tightest t l g b Z n k → n < size t → cut t Z n ≡ true → slack t l g b Z n < slack t l g b Z k → Tightest t l g b Z (n + 1) n
-tightest_less t l g b Z n k p h c lt = record {
-  below = h;
-  cuts = c;
-  least = λ j i u. ⊎_elim (λ r. omega (arith, ap (slack t l g b Z) r)) (λ ne. omega (arith, lt, p.least j (omega arith) u)) (cases_eq j n);
-}
-
-pub tightest_same : (t : Town) (l g : ℕ → ℕ) (b : ℕ) (Z : Set) (n k : ℕ) → Tightest t l g b Z n k → (cut t Z n ≡ true → slack t l g b Z k ≤ slack t l g b Z n) → Tightest t l g b Z (n + 1) k
-tightest_same t l g b Z n k p here = record {
-  below = p.below;
-  cuts = p.cuts;
-  least = λ j i u. ⊎_elim (λ r. omega (arith, here (ap (cut t Z) (sym r) ∙ u), ap (slack t l g b Z) r)) (λ ne. p.least j (omega arith) u) (cases_eq j n);
-}
 
 -- where the least slack is
 pub slack_at : (t : Town) (T : Set → Bool) (In : Set) (l g : ℕ → ℕ) (K : ℕ → Set) → Potential t T In l g K → (b : ℕ) (Z : Set) → Class t l b Z → Lowest In g b → (k : ℕ) → k < size t →

@@ -1,8 +1,8 @@
 -- Sets of streets as lists of marks, and sums over them. Assumes nothing.
-use Rattle.std.proofs.Common.{◌≡◌, ℕ, ◌+◌, ◌*◌, ◌<◌, ◌≤◌, Bool, true, false, List, [], ◌∷◌, ◌++◌, length, replicate, sym, refl, ap, ◌∙◌, ⊎_elim, add-one, arith}
+use Rattle.std.proofs.Common.{◌≡◌, ℕ, ◌+◌, ◌*◌, ◌<◌, ◌≤◌, Bool, true, false, List, [], length, replicate, sym, ap, ◌∙◌, ⊎_elim, arith}
 use mathlib.Core.Path.{fun_ext}
-use Rattle.std.proofs.lemmas.List.{get_or_past, get_or_append_left, get_or_push, get_or-replicate, length_push, length-replicate}
-use Rattle.std.proofs.lemmas.Bool.{cases_eq, cases_lt, cases_Bool, both_ways}
+use Rattle.std.proofs.lemmas.List.{get_or_past, get_or-replicate, length-replicate}
+use Rattle.std.proofs.lemmas.Bool.{cases_lt, cases_Bool, both_ways}
 use Rattle.road.specs.Counts.{◌⊕◌, when, sum, size, one, two, Set, cut}
 use Rattle.road.specs.Model.{model, marked}
 use Rattle.road.specs.Roads as roads
@@ -25,23 +25,6 @@ none_past xs ys k h i = rw (get_or_past xs k false h, get_or_past ys k false i)
 -- what is marked has a place
 pub marked_below : (xs : List Bool) (k : ℕ) → marked xs k ≡ true → k < length xs
 marked_below xs k e = ⊎_elim (λ lt. lt) (λ le. absurd (both_ways (marked xs k) (get_or_past xs k false le) e)) (cases_lt k (length xs))
-
-pub sum_zero : (f : ℕ → ℕ) → sum 0 f ≡ 0
-unfolding sum
-sum_zero f = refl
-
--- one summand more
-pub sum_more : (n : ℕ) (f : ℕ → ℕ) → sum (n + 1) f ≡ f n + sum n f
-unfolding sum
-sum_more n f = rw add-one
-
--- one street more, that is in the set, or is not
-module _ (f : Set) (g : ℕ → ℕ) (n : ℕ) where
-  pub sum_in : f n ≡ true → sum (n + 1) (λ k. when (f k) (g k)) ≡ sum n (λ k. when (f k) (g k)) + g n
-  sum_in e = let s = sum_more n (λ k. when (f k) (g k)) in omega (arith, ap (λ b. when b (g n)) e)
-
-  pub sum_out : f n ≡ false → sum (n + 1) (λ k. when (f k) (g k)) ≡ sum n (λ k. when (f k) (g k))
-  sum_out e = let s = sum_more n (λ k. when (f k) (g k)) in omega (arith, ap (λ b. when b (g n)) e)
 
 -- a sum of n numbers, none above m
 sum_bound : (n m : ℕ) (f : ℕ → ℕ) → ((k : ℕ) → k < n → f k ≤ m) → sum n f ≤ m * n
@@ -79,18 +62,12 @@ cut_past t Z k h = ap (λ s. Z s.one ⊕ Z s.two) (street_past t k h) ∙ xor_se
 pub marked_none : (n : ℕ) → marked (replicate n false) ≡ (λ _. false)
 marked_none n = fun_ext (λ k. ⊎_elim (get_or-replicate n k false false) (λ ge. get_or_past (replicate n false) k false (omega (arith, length-replicate n false))) (cases_lt k n))
 
--- one empty set more
-pub empty_more : (rows : List (List Bool)) (x : List Bool) (n : ℕ) → marked x ≡ (λ _. false) → AllEmpty rows n → AllEmpty (rows ++ x ∷ []) (n + 1)
-empty_more rows x n e p = record {
-  long = length_push rows x ∙ ap (λ m. m + 1) p.long;
+-- rows of no marks
+pub empty_rows : (m n : ℕ) → AllEmpty (replicate m (replicate n false)) m
+empty_rows m n = record {
+  long = length-replicate m (replicate n false);
   none = λ u. ⊎_elim
-      (λ q. ap marked (get_or_push rows x [] u (p.long ∙ sym q)) ∙ e)
-      (λ ne. ⊎_elim
-      (λ lt. ap marked (get_or_append_left rows (x ∷ []) [] u (omega (arith, p.long))) ∙ p.none u)
-      (λ ge. ap marked (get_or_past (rows ++ x ∷ []) u [] (omega (arith, length_push rows x, p.long))))
-      (cases_lt u n))
-      (cases_eq u n);
+      (λ lt. ap marked (get_or-replicate m u (replicate n false) [] lt) ∙ marked_none n)
+      (λ ge. ap marked (get_or_past (replicate m (replicate n false)) u [] (omega (arith, length-replicate m (replicate n false)))))
+      (cases_lt u m);
 }
-
-pub empty_none : AllEmpty [] 0
-empty_none = record { long = refl; none = λ u. refl }

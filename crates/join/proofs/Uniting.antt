@@ -1,8 +1,7 @@
 -- Classes of crossings that come into one another. Assumes nothing.
-use Rattle.std.proofs.Common.{◌≡◌, ℕ, ◌+◌, ◌<◌, Bool, true, false, ◌&&◌, eqb, ltb, List, [], length, set, vec_items, sym, refl, ap, ◌∙◌, subst, ap₂, ⊎_elim, arith}
+use Rattle.std.proofs.Common.{◌≡◌, ℕ, ◌+◌, ◌<◌, Bool, true, false, ◌&&◌, eqb, ltb, List, [], length, get_or, set, vec_items, sym, refl, ap, ◌∙◌, subst, ap₂, ⊎_elim, arith}
 use mathlib.Core.Path.{fun_ext}
-use Rattle.std.specs.Vec.{with_item}
-use Rattle.std.proofs.lemmas.List.{length-set, get_or-set_same, get_or-set_other, get_or_past}
+use Rattle.std.proofs.lemmas.List.{get_or-set_same, get_or-set_other, get_or_past}
 use Rattle.std.proofs.lemmas.Bool.{cases_eq, cases_lt, lt-ltb, le-ltb, and_parts, eqb-true, ltb-true, eq-eqb, both_ways}
 use Rattle.road.specs.Roads.{Town, pick}
 use Rattle.road.specs.Counts.{◌⊕◌, size, one, two, Set, cut, Side, forth}
@@ -10,6 +9,7 @@ use Rattle.road.specs.Model.{marked}
 use Rattle.road.proofs.Parity.{xor_true, xor_self, xor_cancel, xor_assoc, xor_swap}
 use Rattle.join.specs.declared.partition.Classes.{Classes}
 use Rattle.join.specs.Joins.{◌⊞◌, single, Joins, at, Zero, Class}
+use Rattle.join.specs.Amounts.{row}
 use Rattle.join.specs.Classes.{label_in, way_in, Classed, Merged, Absorbed, Kept, class_in}
 use Rattle.join.proofs.Joins.{join_on, join_back, side_join}
 use Rattle.join.proofs.Labels.{pick_same, pick_other, relabelled, label_kept}
@@ -21,16 +21,11 @@ zero_xor t l J Q hJ hQ k i e = ⊎_elim (hJ k i) (hQ k i) (xor_true (J k) (Q k) 
 pub zero_single : (t : Town) (l : ℕ → ℕ) (k : ℕ) → l k ≡ 0 → Zero t l (single k)
 zero_single t l k z j i e = ap l (eqb-true j k e) ∙ z
 
--- another label and way for one crossing
-abbrev pub with_way : Classes → ℕ → ℕ → List Bool → Classes
-with_way c v a Q = record { label = set c.label v a; way = with_item c.way v Q }
-
 -- one crossing more is looked at
 module _ (from to : ℕ) (link : Set) (c d : Classes) (i : ℕ) (p : Absorbed from to link c d i) where
   -- its class is another
   pub absorbed_past : (label_in d i ≡ from → ⊥) → Absorbed from to link c d (i + 1)
   absorbed_past ne = record {
-    full = p.full;
     labels = λ v h. ⊎_elim
         (λ e. ap (label_in d) e ∙ p.past_labels i (omega arith) ∙ sym (pick_other (label_in c i) from to (label_in c i) other) ∙ ap (λ u. pick (eqb (label_in c u) from) to (label_in c u)) (sym e))
         (λ n. p.labels v (omega arith)) (cases_eq v i);
@@ -45,16 +40,15 @@ module _ (from to : ℕ) (link : Set) (c d : Classes) (i : ℕ) (p : Absorbed fr
       other : label_in c i ≡ from → ⊥
       other e = ne (p.past_labels i (omega arith) ∙ e)
 
-  -- it comes over
-  pub absorbed_more : (Q : List Bool) → i < 100 → label_in d i ≡ from → marked Q ≡ link ⊞ way_in d i →
-      Absorbed from to link c (with_way d i to Q) (i + 1)
-  absorbed_more Q h own q = record {
-    full = record { places = length-set d.label i to ∙ p.full.places; rows = length-set (vec_items d.way) i Q ∙ p.full.rows };
+  -- it comes over: d' has another label and way for it
+  pub absorbed_more : (Q : List Bool) → i < 100 → label_in d i ≡ from → marked Q ≡ link ⊞ way_in d i → (d' : Classes) →
+      d'.label ≡ set d.label i to → vec_items d'.way ≡ set (vec_items d.way) i Q → Absorbed from to link c d' (i + 1)
+  absorbed_more Q h own q d' el ew = record {
     labels = λ v lt. ⊎_elim
-        (λ e. ap (label_in (with_way d i to Q)) e ∙ label_same ∙ sym (pick_same (label_in c i) from to (label_in c i) mine) ∙ ap (λ u. pick (eqb (label_in c u) from) to (label_in c u)) (sym e))
+        (λ e. ap (label_in d') e ∙ label_same ∙ sym (pick_same (label_in c i) from to (label_in c i) mine) ∙ ap (λ u. pick (eqb (label_in c u) from) to (label_in c u)) (sym e))
         (λ n. label_other v n ∙ p.labels v (omega arith)) (cases_eq v i);
     ways = λ v lt. ⊎_elim
-        (λ e. ap (way_in (with_way d i to Q)) e ∙ way_same ∙ q ∙ ap (λ W. link ⊞ W) (p.past_ways i (omega arith)) ∙ sym (pick_same (label_in c i) from (link ⊞ way_in c i) (way_in c i) mine)
+        (λ e. ap (way_in d') e ∙ way_same ∙ q ∙ ap (λ W. link ⊞ W) (p.past_ways i (omega arith)) ∙ sym (pick_same (label_in c i) from (link ⊞ way_in c i) (way_in c i) mine)
         ∙ ap (λ u. pick (eqb (label_in c u) from) (link ⊞ way_in c u) (way_in c u)) (sym e))
         (λ n. way_other v n ∙ p.ways v (omega arith)) (cases_eq v i);
     past_labels = λ v le. label_other v (λ e. omega arith) ∙ p.past_labels v (omega arith);
@@ -64,17 +58,17 @@ module _ (from to : ℕ) (link : Set) (c d : Classes) (i : ℕ) (p : Absorbed fr
       mine : label_in c i ≡ from
       mine = sym (p.past_labels i (omega arith)) ∙ own
 
-      label_same : label_in (with_way d i to Q) i ≡ to
-      label_same = get_or-set_same d.label i to 0 (omega (arith, p.full.places))
+      label_same : label_in d' i ≡ to
+      label_same = ap (λ ns. get_or ns i 0) el ∙ get_or-set_same d.label i to 0 (omega (arith, d.places))
 
-      label_other : (v : ℕ) → (v ≡ i → ⊥) → label_in (with_way d i to Q) v ≡ label_in d v
-      label_other v ne = get_or-set_other d.label i v to 0 ne
+      label_other : (v : ℕ) → (v ≡ i → ⊥) → label_in d' v ≡ label_in d v
+      label_other v ne = ap (λ ns. get_or ns v 0) el ∙ get_or-set_other d.label i v to 0 ne
 
-      way_same : way_in (with_way d i to Q) i ≡ marked Q
-      way_same = ap marked (get_or-set_same (vec_items d.way) i Q [] (omega (arith, p.full.rows)))
+      way_same : way_in d' i ≡ marked Q
+      way_same = ap (λ rows. row rows i) ew ∙ ap marked (get_or-set_same (vec_items d.way) i Q [] (omega (arith, d.rows)))
 
-      way_other : (v : ℕ) → (v ≡ i → ⊥) → way_in (with_way d i to Q) v ≡ way_in d v
-      way_other v ne = ap marked (get_or-set_other (vec_items d.way) i v Q [] ne)
+      way_other : (v : ℕ) → (v ≡ i → ⊥) → way_in d' v ≡ way_in d v
+      way_other v ne = ap (λ rows. row rows v) ew ∙ ap marked (get_or-set_other (vec_items d.way) i v Q [] ne)
 
 -- one class has come into another
 module _ (from to : ℕ) (link : Set) (c d : Classes) (p : Absorbed from to link c d 100) where
@@ -97,7 +91,6 @@ module _ (from to : ℕ) (link : Set) (c d : Classes) (p : Absorbed from to link
   -- the ways still lead over streets of no length
   pub absorbed_classed : (t : Town) (l : ℕ → ℕ) → Classed t l c → Joins t (at to) from link → Zero t l link → Classed t l d
   absorbed_classed t l r j z = record {
-    full = p.full;
     leads = λ v h. ⊎_elim (leads_from v h) (leads_other v h) (cases_eq (label_in c v) from);
     zero = λ v h. ⊎_elim (zero_from v h) (zero_other v h) (cases_eq (label_in c v) from);
   }

@@ -1,5 +1,5 @@
 -- Charged classes that show that sets of extra drives are least. Assumes nothing: these are definitions.
-use Rattle.std.specs.Prelude.{◌≡◌, ℕ, ◌*◌, ◌<◌, ◌≤◌, true, not, List, [], ◌∷◌, length, take, pos, slice_index_or}
+use Rattle.std.specs.Prelude.{◌≡◌, ℕ, ◌*◌, ◌<◌, ◌≤◌, true, not, List, [], ◌∷◌, length, take, pos, slice_index_or, refl}
 use Rattle.road.specs.Roads.{pick, Town, street}
 use Rattle.road.specs.Counts.{when, sum, size, Set, cut}
 use Rattle.road.specs.Model.{marked}
@@ -10,7 +10,7 @@ use Rattle.join.specs.Amounts.{amount}
 
 -- a stage is a class of crossings with what it is charged, in half metres; the class and the charge of stage i
 abbrev pub no_stage : Stage
-no_stage = record { marks = []; charge = pos 0; base = 0 }
+no_stage = record { marks = []; charge = pos 0; base = 0; whole = refl }
 
 abbrev pub class_at : List Stage → ℕ → Set
 class_at ss i = marked (slice_index_or ss i no_stage).marks

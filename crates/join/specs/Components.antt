@@ -1,5 +1,5 @@
 -- What can be come to over the streets of a set, and the ways there. Assumes nothing: these are definitions.
-use Rattle.std.specs.Prelude.{◌≡◌, ℕ, ◌<◌, Bool, true, false, List, length, vec_items}
+use Rattle.std.specs.Prelude.{◌≡◌, ℕ, ◌<◌, Bool, true, false, List, vec_items}
 use Rattle.road.specs.Roads.{Town}
 use Rattle.road.specs.Counts.{Set, cut}
 use Rattle.road.specs.Model.{marked}
@@ -16,8 +16,6 @@ path_in c = row (vec_items c.path)
 
 -- crossings that were come to from one, each with a way over streets of A
 pub record Grown (t : Town) (A : Set) (c : Component) : Type 0 where
-  pub places : length c.marks ≡ 100
-  pub rows : length (vec_items c.path) ≡ 100
   pub base : crossings_in c c.from ≡ true
   pub leads : (v : ℕ) → crossings_in c v ≡ true → Joins t (at c.from) v (path_in c v)
   pub by : (v k : ℕ) → crossings_in c v ≡ true → path_in c v k ≡ true → A k ≡ true

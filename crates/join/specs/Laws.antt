@@ -7,7 +7,7 @@ use Rattle.road.specs.Laws.{Way}
 use Rattle.sheet.specs.Sheet.{Part, no_part, Sheet, weights}
 use Rattle.join.specs.declared.turn.Stage.{Stage}
 use Rattle.join.specs.declared.least.LeastDrives.{LeastDrives}
-use Rattle.join.specs.Amounts.{number, row}
+use Rattle.join.specs.Drives.{drives_of, price_of}
 use Rattle.join.specs.Joins.{Joins, once, cost}
 use Rattle.join.specs.Extra.{Inside, extra_length}
 use Rattle.join.specs.Certified.{Certified, double, sheet_of}
@@ -34,7 +34,7 @@ SheetAgrees =
     Sheet t (sheet_of t.crossings r ss) × (weights (sheet_of t.crossings r ss) ≡ 2 * extra_length t (K r))
     × (length (sheet_of t.crossings r ss) ≤ length ss) × Weighty (sheet_of t.crossings r ss)
 
--- the town of least drives, its depot, their sets, and the sheet of their classes
+-- the town of least drives, its depot, their sets and prices, and the sheet of their classes
 abbrev pub town_of : LeastDrives → Town
 town_of s = model s.town.now.town
 
@@ -42,7 +42,10 @@ abbrev pub depot_of : LeastDrives → ℕ
 depot_of s = s.town.now.town.depot
 
 abbrev pub extra_of : LeastDrives → ℕ → Set
-extra_of s = row (vec_items s.extra)
+extra_of s = drives_of (vec_items s.extra)
+
+abbrev pub prices_of : LeastDrives → ℕ → ℕ
+prices_of s = price_of (vec_items s.extra)
 
 abbrev pub sheet_from : LeastDrives → List Part
 sheet_from s = sheet_of (town_of s).crossings (depot_of s) (vec_items s.stages)
@@ -51,8 +54,8 @@ sheet_from s = sheet_of (town_of s).crossings (depot_of s) (vec_items s.stages)
 -- no set to such a crossing costs less than its price; and the classes without the depot are a sheet that weighs twice the length of the extra drives to the depot
 pub record Shown (s : LeastDrives) : Type 0 where
   pub come : (u : ℕ) → (marked s.reached u ≡ true) ↔ Way (town_of s) (depot_of s) u
-  pub certified : Certified (town_of s) all (double (town_of s)) (depot_of s) (marked s.reached) (number s.price) (extra_of s) (vec_items s.stages)
-  pub least : NoneCheaper (town_of s) all (double (town_of s)) (depot_of s) (marked s.reached) (number s.price)
+  pub certified : Certified (town_of s) all (double (town_of s)) (depot_of s) (marked s.reached) (prices_of s) (extra_of s) (vec_items s.stages)
+  pub least : NoneCheaper (town_of s) all (double (town_of s)) (depot_of s) (marked s.reached) (prices_of s)
   pub sheet : Sheet (town_of s) (sheet_from s)
   pub agrees : weights (sheet_from s) ≡ 2 * extra_length (town_of s) (extra_of s (depot_of s))
   pub few : length (sheet_from s) ≤ 400

@@ -3,6 +3,8 @@ pub mod Joins
 pub mod Extra
 pub mod Amounts
 pub mod Weights
+pub mod Problems
+pub mod Drives
 pub mod Prices
 pub mod Odd
 pub mod Classes

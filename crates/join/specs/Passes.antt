@@ -1,20 +1,18 @@
 -- The stages of a pass: what they leave of lengths and potentials, and what is kept of each. Assumes nothing: these are definitions.
-use Rattle.std.specs.Prelude.{◌≡◌, ℕ, zero, suc, ◌+◌, ◌<◌, ◌≤◌, true, false, not, ◌&&◌, List, length, get_or, pos, Some, None, vec_items, Option, slice_index_or}
+use Rattle.std.specs.Prelude.{◌≡◌, ℕ, zero, suc, ◌+◌, ◌<◌, ◌≤◌, true, false, not, ◌&&◌, List, length, Some, None, Option, slice_index_or}
 use Rattle.road.specs.Roads.{Town}
 use Rattle.road.specs.Counts.{when, size, Set, cut}
 use Rattle.road.specs.Model.{marked}
-use Rattle.join.specs.declared.finding.Finding.{Finding}
-use Rattle.join.specs.declared.finding.Finding.TheVariants.{Cheap, Least}
 use Rattle.join.specs.declared.level.Level.{Level}
 use Rattle.join.specs.declared.partition.Classes.{Classes}
 use Rattle.join.specs.declared.prices.Prices.{Prices}
-use Rattle.join.specs.declared.problem.Problem.{Problem}
 use Rattle.join.specs.declared.turn.Found.{Found}
 use Rattle.join.specs.declared.turn.Stage.{Stage}
 use Rattle.join.specs.Joins.{shorter}
 use Rattle.join.specs.Exchange as exchange
 use Rattle.join.specs.Amounts.{amount}
-use Rattle.join.specs.Prices.{town_in, costs_in, start_in, reached_in, extra_in, price_in}
+use Rattle.join.specs.Problems.{town_in, costs_in, start_in, reached_in}
+use Rattle.join.specs.Prices.{extra_in, price_in}
 use Rattle.join.specs.Classes.{label_in, way_in, Classed}
 use Rattle.join.specs.Potentials.{Cheaper, lower}
 use Rattle.join.specs.Turns.{lengths_at, potential_at, Pass}
@@ -39,48 +37,45 @@ potentials_after In f ss zero = f
 potentials_after In f ss (suc n) = lower In (class_at ss n) (charge_at ss n) (potentials_after In f ss n)
 
 -- so at a level
-pub record After (p : Problem) (q : Prices) (ss : List Stage) (n : ℕ) (v : Level) : Type 0 where
-  pub streets : lengths_at v ≡ lengths_after (town_in p) (costs_in p) ss n
-  pub crossings : potential_at v ≡ potentials_after (reached_in p) (price_in q) ss n
+pub record After (q : Prices) (ss : List Stage) (n : ℕ) (v : Level) : Type 0 where
+  pub streets : lengths_at v ≡ lengths_after (town_in q.problem) (costs_in q.problem) ss n
+  pub crossings : potential_at v ≡ potentials_after (reached_in q.problem) (price_in q) ss n
 
 -- what is kept of a stage, with the lengths and the potentials before it: its class stays in one class, by the same ways, and the charge can be taken off
-pub record Staged (p : Problem) (q : Prices) (c : Classes) (l g : ℕ → ℕ) (s : Stage) : Type 0 where
+pub record Staged (q : Prices) (c : Classes) (l g : ℕ → ℕ) (s : Stage) : Type 0 where
   pub below : s.base < 100
   pub base : marked s.marks s.base ≡ true
-  pub whole : s.charge ≡ pos (amount s.charge)
   pub some : 1 ≤ amount s.charge
-  pub stage : exchange.Stage (town_in p) (start_in p) l g s.base (marked s.marks) (amount s.charge) (extra_in q s.base)
+  pub stage : exchange.Stage (town_in q.problem) (start_in q.problem) l g s.base (marked s.marks) (amount s.charge) (extra_in q s.base)
   pub labels : (x : ℕ) → marked s.marks x ≡ true → (x < 100) × (label_in c x ≡ label_in c s.base)
-  pub inside : Inner (town_in p) l s.base (marked s.marks) (way_in c)
-  pub streets : (k : ℕ) → k < size (town_in p) → cut (town_in p) (marked s.marks) k ≡ true → amount s.charge ≤ l k
-  pub crossings : (u : ℕ) → reached_in p u ≡ true → marked s.marks u ≡ false → amount s.charge ≤ g u
-  pub leads : (k : ℕ) × (k < size (town_in p)) × (cut (town_in p) (marked s.marks) k ≡ true)
+  pub inside : Inner (town_in q.problem) l s.base (marked s.marks) (way_in c)
+  pub streets : (k : ℕ) → k < size (town_in q.problem) → cut (town_in q.problem) (marked s.marks) k ≡ true → amount s.charge ≤ l k
+  pub crossings : (u : ℕ) → reached_in q.problem u ≡ true → marked s.marks u ≡ false → amount s.charge ≤ g u
 
 -- so for the first n
-abbrev pub AllStaged : Problem → Prices → Classes → List Stage → ℕ → Type 0
-AllStaged p q c ss n =
-    (i : ℕ) → i < n → Staged p q c (lengths_after (town_in p) (costs_in p) ss i) (potentials_after (reached_in p) (price_in q) ss i) (slice_index_or ss i no_stage)
+abbrev pub AllStaged : Prices → Classes → List Stage → ℕ → Type 0
+AllStaged q c ss n =
+    (i : ℕ) → i < n → Staged q c (lengths_after (town_in q.problem) (costs_in q.problem) ss i) (potentials_after (reached_in q.problem) (price_in q) ss i) (slice_index_or ss i no_stage)
+
+-- out of the class of each stage leads a street
+abbrev pub AllCut : Town → List Stage → Type 0
+AllCut t ss = (i : ℕ) → i < length ss → (k : ℕ) × (k < size t) × (cut t (class_at ss i) k ≡ true)
 
 -- a pass at a level, with its classes and its stages so far
-pub record Run (p : Problem) (q : Prices) (c : Classes) (ss : List Stage) (v : Level) : Type 0 where
-  pub pass : Pass p q v
-  pub classed : Classed (town_in p) (lengths_at v) c
-  pub staged : AllStaged p q c ss (length ss)
-  pub after : After p q ss (length ss) v
-  pub progress : Progress (town_in p) (lengths_at v) (potential_at v) c (length ss)
+pub record Run (q : Prices) (c : Classes) (ss : List Stage) (v : Level) : Type 0 where
+  pub pass : Pass q v
+  pub classed : Classed (town_in q.problem) (lengths_at v) c
+  pub staged : AllStaged q c ss (length ss)
+  pub cuts : AllCut (town_in q.problem) ss
+  pub after : After q ss (length ss) v
+  pub progress : Progress (town_in q.problem) (lengths_at v) (potential_at v) c (length ss)
 
 -- it ends with a cheaper set, or where no potential is left
-abbrev pub Ends : Problem → Prices → Level → Option Found → Type 0
-Ends p q v None = (u : ℕ) → reached_in p u ≡ true → potential_at v u ≡ 0
-Ends p q v (Some f) = Cheaper (town_in p) (start_in p) (reached_in p) (lengths_at v) (potential_at v) f.crossing (marked f.drives)
+abbrev pub Ends : Prices → Level → Option Found → Type 0
+Ends q v None = (u : ℕ) → reached_in q.problem u ≡ true → potential_at v u ≡ 0
+Ends q v (Some f) = Cheaper (town_in q.problem) (start_in q.problem) (reached_in q.problem) (lengths_at v) (potential_at v) f.crossing (marked f.drives)
 
 -- stages that show that prices are least, each charged no more than a street out of its class costs
-pub record ShowsLeast (p : Problem) (q : Prices) (ss : List Stage) : Type 0 where
-  pub certified : Certified (town_in p) (marked p.required.now) (costs_in p) p.town.now.depot (reached_in p) (price_in q) (extra_in q) ss
-  pub whole : (i : ℕ) → i < length ss → (get_or ss i no_stage).charge ≡ pos (charge_at ss i)
-  pub most : (i : ℕ) → i < length ss → (k : ℕ) × (k < size (town_in p)) × (charge_at ss i ≤ costs_in p k)
-
--- what a pass finds: a set that costs less than its price, or stages that show that all prices are least
-abbrev pub FindsOut : Problem → Prices → Finding → Type 0
-FindsOut p q (Cheap f) = Cheaper (town_in p) (start_in p) (reached_in p) (costs_in p) (price_in q) f.crossing (marked f.drives)
-FindsOut p q (Least ss) = ShowsLeast p q (vec_items ss)
+pub record ShowsLeast (q : Prices) (ss : List Stage) : Type 0 where
+  pub certified : Certified (town_in q.problem) (marked q.problem.required.now) (costs_in q.problem) q.problem.town.now.depot (reached_in q.problem) (price_in q) (extra_in q) ss
+  pub most : (i : ℕ) → i < length ss → (k : ℕ) × (k < size (town_in q.problem)) × (charge_at ss i ≤ costs_in q.problem k)

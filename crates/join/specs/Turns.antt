@@ -1,19 +1,19 @@
 -- What one turn of a pass finds, and what it leaves. Assumes nothing: these are definitions.
-use Rattle.std.specs.Prelude.{◌≡◌, ℕ, ◌<◌, ◌≤◌, Bool, true, length, pos, vec_items}
+use Rattle.std.specs.Prelude.{◌≡◌, ℕ, ◌<◌, ◌≤◌, Bool, true}
 use Rattle.road.specs.Roads.{Town}
 use Rattle.road.specs.Counts.{Set}
 use Rattle.road.specs.Model.{marked}
 use Rattle.join.specs.declared.level.Level.{Level}
 use Rattle.join.specs.declared.partition.Classes.{Classes}
 use Rattle.join.specs.declared.prices.Prices.{Prices}
-use Rattle.join.specs.declared.problem.Problem.{Problem}
 use Rattle.join.specs.declared.turn.Turn.{Turn}
 use Rattle.join.specs.declared.turn.Turn.TheVariants.{Better, Charge, Done}
 use Rattle.join.specs.Joins.{Class, shorter}
 use Rattle.join.specs.Exchange as exchange
-use Rattle.join.specs.Amounts.{amount, number, Whole, Most}
+use Rattle.join.specs.Amounts.{amount, number}
 use Rattle.join.specs.Classes.{class_in}
-use Rattle.join.specs.Prices.{town_in, start_in, reached_in, extra_in}
+use Rattle.join.specs.Problems.{town_in, start_in, reached_in}
+use Rattle.join.specs.Prices.{extra_in}
 use Rattle.join.specs.Potentials.{Potential, Cheaper, lower, Lowest, Attained}
 
 -- the lengths and the potentials
@@ -23,20 +23,9 @@ lengths_at v = number v.lengths
 abbrev pub potential_at : Level → ℕ → ℕ
 potential_at v = number v.potential
 
--- there is a length for each street and a potential for each crossing, none negative and none large
-pub record Filled (v : Level) : Type 0 where
-  pub streets : length v.lengths ≡ 300
-  pub places : length v.potential ≡ 100
-  pub whole : Whole v.lengths
-  pub most : Most 4000000000 v.lengths
-  pub whole_potential : Whole v.potential
-  pub high : Most 1200000000000 v.potential
-
 -- a stage of a pass: the potentials are potentials for the lengths, by the sets of extra drives
-pub record Pass (p : Problem) (q : Prices) (v : Level) : Type 0 where
-  pub filled : Filled v
-  pub rows : length (vec_items q.extra) ≡ 100
-  pub level : Potential (town_in p) (start_in p) (reached_in p) (lengths_at v) (potential_at v) (extra_in q)
+pub record Pass (q : Prices) (v : Level) : Type 0 where
+  pub level : Potential (town_in q.problem) (start_in q.problem) (reached_in q.problem) (lengths_at v) (potential_at v) (extra_in q)
 
 -- the class Z of b can be charged e, and no more
 pub record Charged (t : Town) (T : Set → Bool) (In : Set) (l g : ℕ → ℕ) (K : ℕ → Set) (Z : Set) (e b : ℕ) : Type 0 where
@@ -49,11 +38,11 @@ pub record Charged (t : Town) (T : Set → Bool) (In : Set) (l g : ℕ → ℕ) 
 -- what a turn finds: a set that is cheaper, a class that can be charged, or that all potentials are 0
 abbrev pub Finds : (t : Town) (T : Set → Bool) (In : Set) (l g : ℕ → ℕ) (K : ℕ → Set) → Turn → Type 0
 Finds t T In l g K (Better f) = Cheaper t T In l g f.crossing (marked f.drives)
-Finds t T In l g K (Charge s) = Charged t T In l g K (marked s.marks) (amount s.charge) s.base × (s.charge ≡ pos (amount s.charge)) × (s.base < 100)
+Finds t T In l g K (Charge s) = Charged t T In l g K (marked s.marks) (amount s.charge) s.base × (s.base < 100)
 Finds t T In l g K Done = (u : ℕ) → In u ≡ true → g u ≡ 0
 
-abbrev pub FindsAt : Problem → Prices → Level → Turn → Type 0
-FindsAt p q v r = Finds (town_in p) (start_in p) (reached_in p) (lengths_at v) (potential_at v) (extra_in q) r
+abbrev pub FindsAt : Prices → Level → Turn → Type 0
+FindsAt q v r = Finds (town_in q.problem) (start_in q.problem) (reached_in q.problem) (lengths_at v) (potential_at v) (extra_in q) r
 
 -- a class that is charged is that of its base
 abbrev pub Named : Classes → Turn → Type 0

@@ -1,26 +1,17 @@
 // Classes as a pass begins: each crossing is alone.
-ghost use Rattle.std.specs.Prelude.{◌≡◌, ℕ, ◌<◌, replicate, IfOk, slice_index};
+ghost use Rattle.std.specs.Prelude.{◌≡◌, ℕ, ◌<◌, IfOk, slice_index};
 ghost use Rattle.join.specs.Classes.{Alone};
 
 use crate::partition::Classes;
 use crate::sets::no_ways;
 use std::alloc::{AllocError, Global};
-
-fn no_labels() -> [usize; 100]
-    ensures { result ≡ replicate 100 0 }
-{
-    [0; 100]
-}
+use std::array::from_fn;
 
 // Each crossing, as its own label.
 fn own_labels() -> [usize; 100]
     ensures { (v : ℕ) → v < 100 → slice_index result v ≡ v }
 {
-    let mut label = no_labels();
-    for v in 0..100 {
-        label[v] = v;
-    }
-    label
+    from_fn(|v| v)
 }
 
 impl Classes {

@@ -1,6 +1,6 @@
 // Circuits out of a set of crossings and back, along streets in which two sets of streets differ.
-ghost use Rattle.std.specs.Prelude.{◌≡◌, ℕ, ◌<◌, true, length, MatchOption};
-ghost use Rattle.road.specs.Counts.{Set, cut as cuts};
+ghost use Rattle.std.specs.Prelude.{◌≡◌, ℕ, ◌<◌, true, not, ◌&&◌, MatchOption};
+ghost use Rattle.road.specs.Counts.{one, two, Set, cut as cuts};
 ghost use Rattle.road.specs.Model.{marked};
 ghost use Rattle.join.specs.Weights.{ground, side_of, inner as inner_of, outer as outer_of};
 ghost use Rattle.join.specs.Circuits.{outside as differ, Second, Lone, AllLone, Closes};
@@ -9,6 +9,7 @@ use crate::circuit::{Circuit, Exit};
 use crate::component::Component;
 use crate::cut::Cut;
 use crate::sets::xor;
+use std::array::from_fn;
 
 impl Cut<'_, '_> {
     // Street k, which is cut, with its ends.
@@ -25,16 +26,20 @@ impl Cut<'_, '_> {
         }
     }
 
+    // Whether street k has both ends outside.
+    fn leaves_out(&self, k: usize) -> bool
+        ensures { result ≡ (not (side_of self.now (one (ground self.now) k)) && not (side_of self.now (two (ground self.now) k))) }
+    {
+        let street = self.town.street(k);
+        !self.marks[street.one] && !self.marks[street.two]
+    }
+
     // The streets in which two sets differ, with both ends outside.
     fn outside(&self, drives: &[bool; 300], base: &[bool; 300]) -> [bool; 300]
         ensures { (k : ℕ) → k < self.now.town.now.count → marked result k ≡ differ (ground self.now) (side_of self.now) (marked drives.now) (marked base.now) k }
     {
-        let mut streets = xor(drives, base);
-        for k in 0..self.town.count {
-            let street = self.town.street(k);
-            streets[k] = streets[k] && !self.marks[street.one] && !self.marks[street.two];
-        }
-        streets
+        let apart = xor(drives, base);
+        from_fn(|k| apart[k] && self.leaves_out(k))
     }
 
     // Another street of a set that is cut, whose end outside is marked.
@@ -43,15 +48,10 @@ impl Cut<'_, '_> {
             ((k : ℕ) → k < self.now.town.now.count → Second (ground self.now) (side_of self.now) (marked drives.now) (marked marks.now) first k → ⊥)
             (λ k. (k < self.now.town.now.count) × Second (ground self.now) (side_of self.now) (marked drives.now) (marked marks.now) first k) }
     {
-        for k in 0..self.town.count {
-            if k != first && drives[k] && self.has(k) {
-                let y = self.outer_end(k);
-                if marks[y] {
-                    return Some(k);
-                }
-            }
-        }
-        None
+        (0..self.town.count).find(|&k| k != first
+            && drives[k]
+            && self.has(k)
+            && marks[self.outer_end(k)])
     }
 
     // A circuit that begins with street k of the set, which is cut.
@@ -62,24 +62,18 @@ impl Cut<'_, '_> {
         component: &mut Component,
         k: usize,
     ) -> Option<Circuit>
-        requires rows { length component.old.path.items ≡ 100 }
         requires below { k < self.now.town.now.count }
         requires own { (marked drives.now k ≡ true) × (cuts (ground self.now) (side_of self.now) k ≡ true) }
-        ensures rows { length component.new.path.items ≡ 100 }
-        ensures is { MatchOption result
+        ensures { MatchOption result
             ((Y : Set) × Lone (ground self.now) (side_of self.now) (marked drives.now) (marked base.now) k Y)
             (Closes (ground self.now) (side_of self.now) (marked drives.now) (marked base.now)) }
     {
         let out = self.exit_at(k);
         component.search(self.town, &self.outside(drives, base), out.outer);
-        match self.second_exit(drives, &component.marks, k) {
-            Some(j) => {
-                let back = self.exit_at(j);
-                let far = *component.path_to(back.outer);
-                Some(Circuit { out, back, far })
-            }
-            None => None,
-        }
+        let j = self.second_exit(drives, &component.marks, k)?;
+        let back = self.exit_at(j);
+        let far = *component.path_to(back.outer);
+        Some(Circuit { out, back, far })
     }
 
     // A circuit that begins with a street of the set that is cut, unless each is alone.
@@ -89,12 +83,11 @@ impl Cut<'_, '_> {
         base: &[bool; 300],
         component: &mut Component,
     ) -> Option<Circuit>
-        requires { length component.old.path.items ≡ 100 }
-        ensures rows { length component.new.path.items ≡ 100 }
-        ensures is { MatchOption result
+        ensures { MatchOption result
             (AllLone (ground self.now) (side_of self.now) (marked drives.now) (marked base.now) self.now.town.now.count)
             (Closes (ground self.now) (side_of self.now) (marked drives.now) (marked base.now)) }
     {
+        // A loop over street numbers: a closure for `find_map` would have to repeat the clauses of `close`.
         for k in 0..self.town.count {
             let cut = self.has(k);
             if drives[k] && cut {

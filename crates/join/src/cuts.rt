@@ -1,21 +1,11 @@
 // The streets that lead out of a set of crossings.
 ghost use Rattle.std.specs.Prelude.{◌≡◌, ℕ, ◌<◌, true, false, MatchOption};
-ghost use Rattle.road.specs.Counts.{size, cut as cuts};
+ghost use Rattle.road.specs.Counts.{◌⊕◌, size, one, cut as cuts};
 ghost use Rattle.road.specs.Model.{model, marked};
 ghost use Rattle.join.specs.Joins.{outs as ways};
 ghost use Rattle.join.specs.Weights.{ground, side_of, end_of, inner, outer};
 
 use crate::cut::Cut;
-use road::Town;
-
-// One end of a street, or the other.
-pub(crate) fn end(town: &Town, k: usize, back: bool) -> usize
-    ensures is { result ≡ end_of (model town.now) k back }
-    ensures below { result < 100 }
-{
-    let street = town.street(k);
-    if back { street.two } else { street.one }
-}
 
 impl Cut<'_, '_> {
     // Whether street k has just one end in the set.
@@ -30,14 +20,22 @@ impl Cut<'_, '_> {
     pub(crate) fn outs(&self, drives: &[bool; 300]) -> usize
         ensures { result ≡ ways (ground self.now) (side_of self.now) (marked drives.now) }
     {
-        let mut n = 0;
-        for k in 0..self.town.count {
-            let cut = self.has(k);
-            if drives[k] && cut {
-                n += 1;
-            }
+        (0..self.town.count)
+            .filter(|&k| drives[k] && self.has(k))
+            .count()
+    }
+
+    // The end of a cut street that is in the set, or the one that is not.
+    fn end_where(&self, k: usize, inside: bool) -> usize
+        ensures is { result ≡ end_of (ground self.now) k (inside ⊕ side_of self.now (one (ground self.now) k)) }
+        ensures below { result < 100 }
+    {
+        let street = self.town.street(k);
+        if self.marks[street.one] == inside {
+            street.one
+        } else {
+            street.two
         }
-        n
     }
 
     // The end of a cut street that is in the set.
@@ -45,8 +43,7 @@ impl Cut<'_, '_> {
         ensures is { result ≡ inner (ground self.now) (side_of self.now) k }
         ensures below { result < 100 }
     {
-        let first = end(self.town, k, false);
-        end(self.town, k, !self.marks[first])
+        self.end_where(k, true)
     }
 
     // The end of a cut street that is not in the set.
@@ -54,8 +51,7 @@ impl Cut<'_, '_> {
         ensures is { result ≡ outer (ground self.now) (side_of self.now) k }
         ensures below { result < 100 }
     {
-        let first = end(self.town, k, false);
-        end(self.town, k, self.marks[first])
+        self.end_where(k, false)
     }
 
     // A street of a set that is cut.
@@ -63,11 +59,6 @@ impl Cut<'_, '_> {
         ensures { MatchOption result ((k : ℕ) → k < size (ground self.now) → cuts (ground self.now) (side_of self.now) k ≡ true → marked drives.now k ≡ false)
             (λ k. (k < self.now.town.now.count) × (marked drives.now k ≡ true) × (cuts (ground self.now) (side_of self.now) k ≡ true)) }
     {
-        for k in 0..self.town.count {
-            if drives[k] && self.has(k) {
-                return Some(k);
-            }
-        }
-        None
+        (0..self.town.count).find(|&k| drives[k] && self.has(k))
     }
 }

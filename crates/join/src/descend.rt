@@ -1,68 +1,54 @@
 // A cheaper set carried down over the stages of a pass, to the costs and prices from which it began.
-ghost use Rattle.std.specs.Prelude.{◌≡◌, ℕ, ◌≤◌, length};
+ghost use Rattle.std.specs.Prelude.{◌+◌, ◌<◌, length};
 ghost use Rattle.road.specs.Model.{marked};
-ghost use Rattle.join.specs.Amounts.{amount};
-ghost use Rattle.join.specs.Prices.{town_in, costs_in, start_in, reached_in, price_in};
-ghost use Rattle.join.specs.Classes.{Full};
+ghost use Rattle.join.specs.Problems.{town_in, costs_in, start_in, reached_in};
+ghost use Rattle.join.specs.Prices.{price_in};
 ghost use Rattle.join.specs.Potentials.{Cheaper};
-ghost use Rattle.join.specs.Turns.{lengths_at, potential_at, Filled};
-ghost use Rattle.join.specs.Passes.{longer, higher, After, Staged, AllStaged};
+ghost use Rattle.join.specs.Turns.{lengths_at, potential_at};
+ghost use Rattle.join.specs.Passes.{After};
 
+use crate::charged::ChargedCut;
 use crate::component::Component;
 use crate::level::Level;
-use crate::partition::Classes;
-use crate::prices::Prices;
-use crate::problem::Problem;
-use crate::turn::{Found, Stage};
+use crate::packing::CutPacking;
+use crate::turn::Found;
 
-impl Level {
-    // Puts the charge of a stage back, and carries a cheaper set down over it.
-    fn undo(
-        &mut self,
-        problem: &Problem,
-        prices: &Prices,
-        classes: &Classes,
-        stage: &Stage,
-        found: &Found,
-        component: &mut Component,
-    ) -> Found
-        requires filled { Filled self.old }
-        requires rows { (length prices.now.extra.items ≡ 100) × ((length component.old.path.items ≡ 100) × (Full classes.now)) }
-        requires staged { Staged problem.now prices.now classes.now (longer (town_in problem.now) (marked stage.now.marks) (amount stage.now.charge) (lengths_at self.old)) (higher (reached_in problem.now) (marked stage.now.marks) (amount stage.now.charge) (potential_at self.old)) stage.now }
-        requires most { (((k : ℕ) → longer (town_in problem.now) (marked stage.now.marks) (amount stage.now.charge) (lengths_at self.old) k ≤ 4000000000)) × (((u : ℕ) → higher (reached_in problem.now) (marked stage.now.marks) (amount stage.now.charge) (potential_at self.old) u ≤ 1200000000000)) }
-        requires cheaper { Cheaper (town_in problem.now) (start_in problem.now) (reached_in problem.now) (lengths_at self.old) (potential_at self.old) found.now.crossing (marked found.now.drives) }
-        ensures filled { Filled self.new }
-        ensures rows { length component.new.path.items ≡ 100 }
-        ensures streets { lengths_at self.new ≡ longer (town_in problem.now) (marked stage.now.marks) (amount stage.now.charge) (lengths_at self.old) }
-        ensures crossings { potential_at self.new ≡ higher (reached_in problem.now) (marked stage.now.marks) (amount stage.now.charge) (potential_at self.old) }
-        ensures cheaper { Cheaper (town_in problem.now) (start_in problem.now) (reached_in problem.now) (lengths_at self.new) (potential_at self.new) result.crossing (marked result.drives) }
+impl CutPacking<'_, '_, '_> {
+    // Puts the charge of stage i back, and carries a cheaper set down over it.
+    fn undo(&self, level: &mut Level, i: usize, found: &Found, component: &mut Component) -> Found
+        requires below { i < length self.now.stages.now }
+        requires after { After self.now.prices.now self.now.stages.now (i + 1) level.old }
+        requires cheaper { Cheaper (town_in self.now.prices.now.problem) (start_in self.now.prices.now.problem) (reached_in self.now.prices.now.problem) (lengths_at level.old) (potential_at level.old) found.now.crossing (marked found.now.drives) }
+        ensures after { After self.now.prices.now self.now.stages.now i level.new }
+        ensures cheaper { Cheaper (town_in self.now.prices.now.problem) (start_in self.now.prices.now.problem) (reached_in self.now.prices.now.problem) (lengths_at level.new) (potential_at level.new) result.crossing (marked result.drives) }
     {
-        self.restore(problem, stage);
-        self.carry(problem, prices, classes, stage, found, component)
+        let prices = self.prices;
+        let stage = &self.stages[i];
+        level.restore(&prices.problem, stage);
+        let cut = ChargedCut {
+            prices,
+            classes: self.classes,
+            level,
+            stage,
+        };
+        cut.carry(found, component)
     }
 
     // Carries a set that is cheaper after the stages of a pass down over all of them: a set that costs less than its price.
     pub(crate) fn descend(
-        &mut self,
-        problem: &Problem,
-        prices: &Prices,
-        classes: &Classes,
-        stages: &[Stage],
+        &self,
+        level: &mut Level,
         found: Found,
         component: &mut Component,
     ) -> Found
-        requires filled { Filled self.old }
-        requires rows { (length prices.now.extra.items ≡ 100) × ((length component.old.path.items ≡ 100) × (Full classes.now)) }
-        requires high { (u : ℕ) → price_in prices.now u ≤ 1200000000000 }
-        requires staged { AllStaged problem.now prices.now classes.now stages.now (length stages.now) }
-        requires after { After problem.now prices.now stages.now (length stages.now) self.old }
-        requires cheaper { Cheaper (town_in problem.now) (start_in problem.now) (reached_in problem.now) (lengths_at self.old) (potential_at self.old) found.crossing (marked found.drives) }
-        ensures rows { length component.new.path.items ≡ 100 }
-        ensures cheaper { Cheaper (town_in problem.now) (start_in problem.now) (reached_in problem.now) (costs_in problem.now) (price_in prices.now) result.crossing (marked result.drives) }
+        requires after { After self.now.prices.now self.now.stages.now (length self.now.stages.now) level.old }
+        requires cheaper { Cheaper (town_in self.now.prices.now.problem) (start_in self.now.prices.now.problem) (reached_in self.now.prices.now.problem) (lengths_at level.old) (potential_at level.old) found.crossing (marked found.drives) }
+        ensures { Cheaper (town_in self.now.prices.now.problem) (start_in self.now.prices.now.problem) (reached_in self.now.prices.now.problem) (costs_in self.now.prices.now.problem) (price_in self.now.prices.now) result.crossing (marked result.drives) }
     {
+        // By number: what holds of the level is said of the stages before number i.
         let mut best = found;
-        for i in (0..stages.len()).rev() {
-            best = self.undo(problem, prices, classes, &stages[i], &best, component);
+        for i in (0..self.stages.len()).rev() {
+            best = self.undo(level, i, &best, component);
         }
         best
     }

@@ -1,5 +1,5 @@
 // The entry: least extra drives of a sound town, over all streets, where a street more costs twice its length.
-ghost use Rattle.std.specs.Prelude.{◌≡◌, ℕ, length, replicate, pos, IfOk};
+ghost use Rattle.std.specs.Prelude.{◌≡◌, ℕ, length, pos, IfOk};
 ghost use Rattle.road.specs.Reach.{reached as come};
 ghost use Rattle.road.specs.Model.{model, marked};
 ghost use Rattle.ways.specs.Shown.{AllShown};
@@ -10,12 +10,20 @@ ghost use Rattle.join.specs.Laws.{Shown};
 use crate::least::LeastDrives;
 use crate::prices::Prices;
 use crate::problem::Problem;
-use crate::sets::{all_streets, no_crossings};
 use crate::solve::Solved;
 use crate::start::{way_to, ways_from};
 use road::{SoundTown, Town};
 use std::alloc::{AllocError, Global};
+use std::array::from_fn;
 use ways::Ways;
+
+// Whether there is a way from the depot to crossing u.
+fn is_reached(town: &Town, ways: &Ways, u: usize) -> bool
+    requires { AllShown (model town.now) town.now.depot ways.now }
+    ensures { result ≡ come (model town.now) town.now.depot u }
+{
+    u < town.crossings && way_to(ways, u).is_some()
+}
 
 // The crossings to which there is a way from the depot.
 fn reached_by(town: &Town, ways: &Ways) -> [bool; 100]
@@ -23,17 +31,7 @@ fn reached_by(town: &Town, ways: &Ways) -> [bool; 100]
     ensures long { length result ≡ 100 }
     ensures is { (u : ℕ) → marked result u ≡ come (model town.now) town.now.depot u }
 {
-    let mut reached = no_crossings();
-    for u in 0..town.crossings {
-        reached[u] = way_to(ways, u).is_some();
-    }
-    reached
-}
-
-fn no_costs() -> [i64; 300]
-    ensures { result ≡ replicate 300 (pos 0) }
-{
-    [0; 300]
+    from_fn(|u| is_reached(town, ways, u))
 }
 
 // Twice the length of a street, in half metres of driving it once more.
@@ -49,11 +47,7 @@ fn double_lengths(town: &Town) -> [i64; 300]
     ensures whole { Whole result }
     ensures is { number result ≡ double (model town.now) }
 {
-    let mut costs = no_costs();
-    for k in 0..town.count {
-        costs[k] = double_length(town, k);
-    }
-    costs
+    from_fn(|k| double_length(town, k))
 }
 
 impl<'t> LeastDrives<'t> {
@@ -63,7 +57,7 @@ impl<'t> LeastDrives<'t> {
     {
         let ways = ways_from(&town.town, town.town.depot, heap)?;
         let reached = reached_by(&town.town, &ways);
-        let required = all_streets();
+        let required = [true; 300];
         let costs = double_lengths(&town.town);
         let problem = Problem {
             town: &town.town,
@@ -76,11 +70,10 @@ impl<'t> LeastDrives<'t> {
             stages,
             tally,
         } = problem.solve(&ways, heap)?;
-        let Prices { extra, price } = prices;
+        let Prices { extra, .. } = prices;
         Ok(LeastDrives {
             town,
             reached,
-            price,
             extra,
             stages,
             passes: tally.passes,

@@ -1,11 +1,12 @@
 // The first sets of extra drives and their prices: the depot's set, and on along a shortest way to each crossing.
-ghost use Rattle.std.specs.Prelude.{◌≡◌, ◌+◌, ◌<◌, true, replicate, pos, IfOk, OnOk};
+ghost use Rattle.std.specs.Prelude.{◌≡◌, ◌<◌, true, pos, IfOk};
 ghost use Rattle.road.specs.Model.{model, marked};
 ghost use Rattle.ways.specs.Shown.{AllShown};
 ghost use Rattle.join.specs.Joins.{Joins, cost};
-ghost use Rattle.join.specs.Prices.{town_in, start_in, reached_in, Priced, Bounded};
+ghost use Rattle.join.specs.Problems.{town_in, costs_in, start_in, reached_in};
 ghost use Rattle.join.specs.First.{Leads, Rooted, Begun};
 
+use crate::drives::PricedDrives;
 use crate::prices::Prices;
 use crate::problem::Problem;
 use crate::start::{flip_along, way_to};
@@ -26,12 +27,6 @@ fn along_way(town: &Town, home: &[bool; 300], ways: &Ways, u: usize) -> [bool; 3
     }
 }
 
-fn no_prices() -> [i64; 100]
-    ensures { result ≡ replicate 100 (pos 0) }
-{
-    [0; 100]
-}
-
 // The set for crossing u.
 fn set_for(problem: &Problem, home: &[bool; 300], ways: &Ways, u: usize) -> [bool; 300]
     requires { Rooted problem.now (marked home.now) ways.now }
@@ -44,49 +39,53 @@ fn set_for(problem: &Problem, home: &[bool; 300], ways: &Ways, u: usize) -> [boo
     }
 }
 
-impl Prices {
-    // Adds the set for crossing u, and its price.
-    fn add(
-        &mut self,
-        problem: &Problem,
-        home: &[bool; 300],
-        ways: &Ways,
-        u: usize,
-    ) -> Result<(), AllocError>
-        requires rooted { Rooted problem.now (marked home.now) ways.now }
-        requires begun { (Begun problem.now self.old u) × (u < 100) }
-        ensures begun { OnOk result (Begun problem.now self.new (u + 1)) }
-        ensures bounded { OnOk result (Bounded self.old → Bounded self.new) }
+impl Problem<'_, '_> {
+    // A set, with what it costs.
+    fn priced(&self, drives: [bool; 300]) -> PricedDrives
+        ensures drives { result.drives ≡ drives }
+        ensures price { result.price ≡ pos (cost (town_in self.now) (costs_in self.now) (marked drives)) }
     {
-        let drives = set_for(problem, home, ways, u);
         let streets = Weighted {
-            town: problem.town,
-            lengths: problem.costs,
+            town: self.town,
+            lengths: self.costs,
         };
-        let cost = streets.cost(&drives);
-        self.extra.push(drives)?;
-        self.price[u] = cost;
-        Ok(())
+        let price = streets.cost(&drives);
+        PricedDrives { drives, price }
     }
+}
 
+// Sets for the crossings, from a set that leads to the depot.
+fn first_sets(
+    problem: &Problem,
+    home: &[bool; 300],
+    ways: &Ways,
+    heap: Global,
+) -> Result<Vec<PricedDrives>, AllocError>
+    requires { Rooted problem.now (marked home.now) ways.now }
+    ensures { IfOk result (λ extra. Begun problem.now extra.items 100) }
+{
+    let mut extra = Vec::new(heap);
+    for u in 0..100 {
+        extra.push(problem.priced(set_for(problem, home, ways, u)))?;
+    }
+    Ok(extra)
+}
+
+impl<'t, 'c> Prices<'t, 'c> {
     // A set for each crossing that can be come to, from a set that leads to the depot.
     pub(crate) fn first(
-        problem: &Problem,
+        problem: &Problem<'t, 'c>,
         home: &[bool; 300],
         ways: &Ways,
         heap: Global,
-    ) -> Result<Prices, AllocError>
+    ) -> Result<Prices<'t, 'c>, AllocError>
         requires { Rooted problem.now (marked home.now) ways.now }
-        ensures priced { IfOk result (λ q. Priced problem.now q) }
-        ensures bounded { IfOk result Bounded }
+        ensures { IfOk result (λ q. q.problem ≡ problem.now) }
     {
-        let mut prices = Prices {
-            extra: Vec::new(heap),
-            price: no_prices(),
-        };
-        for u in 0..100 {
-            prices.add(problem, home, ways, u)?;
-        }
-        Ok(prices)
+        let extra = first_sets(problem, home, ways, heap)?;
+        Ok(Prices {
+            problem: *problem,
+            extra,
+        })
     }
 }

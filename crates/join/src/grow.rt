@@ -1,5 +1,5 @@
 // What can be come to over the streets of a set.
-ghost use Rattle.std.specs.Prelude.{◌≡◌, ◌<◌, true, false, length};
+ghost use Rattle.std.specs.Prelude.{◌≡◌, ◌<◌, true, false};
 ghost use Rattle.road.specs.Counts.{cut as cuts};
 ghost use Rattle.road.specs.Model.{model, marked};
 ghost use Rattle.road.specs.Growth.{Tried};
@@ -7,14 +7,14 @@ ghost use Rattle.join.specs.Components.{path_in, Grown, Closed};
 
 use crate::component::Component;
 use crate::cut::Cut;
-use crate::sets::{flip, no_streets, only};
+use crate::sets::{flip, only};
 use road::Town;
 
+// It grows as what can be come to from the depot does in `road`, but over a set of streets and with a way to each crossing; there marks are enough, and nothing is allocated.
 impl Component {
     // The way to crossing v.
     pub(crate) fn path_to(&self, v: usize) -> &[bool; 300]
-        requires below { v < 100 }
-        requires rows { length self.now.path.items ≡ 100 }
+        requires { v < 100 }
         ensures { marked result.now ≡ path_in self.now v }
     {
         &self.path[v]
@@ -59,15 +59,14 @@ impl Component {
 
     // Comes to all that can be come to from a crossing over allowed streets.
     pub(crate) fn search(&mut self, town: &Town, allowed: &[bool; 300], from: usize)
-        requires rows { length self.old.path.items ≡ 100 }
-        requires below { from < 100 }
+        requires { from < 100 }
         ensures grown { Grown (model town.now) (marked allowed.now) self.new }
         ensures from { self.new.from ≡ from }
         ensures closed { Closed (model town.now) (marked allowed.now) self.new.marks town.now.count }
     {
         self.from = from;
         self.marks = only(from);
-        self.path[from] = no_streets();
+        self.path[from] = [false; 300];
         while self.grow(town, allowed) {}
     }
 }

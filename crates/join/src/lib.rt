@@ -3,14 +3,16 @@
 
 mod alone;
 mod carry;
+mod charged;
 mod circuit;
 mod close;
 mod component;
+mod contraction;
 mod cut;
 mod cuts;
 mod descend;
+mod drives;
 mod entry;
-mod finding;
 mod first_prices;
 mod grow;
 mod laws;
@@ -19,6 +21,7 @@ mod level;
 mod look;
 mod minimize;
 mod outcome;
+mod packing;
 mod partition;
 mod pass;
 mod prices;
@@ -36,6 +39,7 @@ mod unite;
 mod weigh;
 mod weighted;
 
+pub use drives::PricedDrives;
 pub use least::LeastDrives;
 pub use start::first_odd;
 pub use turn::Stage;

@@ -1,71 +1,92 @@
 // Prices made lower along the streets, until no street makes one lower.
-ghost use Rattle.std.specs.Prelude.{◌≡◌, ◌<◌, ◌≤◌, length};
+ghost use Rattle.std.specs.Prelude.{◌≡◌, ℕ, ◌<◌, ◌≤◌, pos, slice_index_or};
 ghost use Rattle.road.specs.Model.{marked};
-ghost use Rattle.join.specs.Prices.{extra_in, Priced, Bounded, Lowered, Near, AllNear, all_prices};
+ghost use Rattle.join.specs.Joins.{Joins, cost as costs};
+ghost use Rattle.join.specs.Problems.{town_in, costs_in, start_in};
+ghost use Rattle.join.specs.Prices.{extra_in, price_in, Lowered, Near, AllNear, all_prices};
 
-use crate::cuts::end;
+use crate::drives::PricedDrives;
 use crate::prices::Prices;
-use crate::problem::Problem;
 use crate::sets::flip;
 use crate::weighted::Weighted;
+use road::Leg;
+use std::array::from_fn;
 
-impl Prices {
+impl Prices<'_, '_> {
     // The set for crossing u.
     pub(crate) fn extra_for(&self, u: usize) -> &[bool; 300]
-        requires below { u < 100 }
-        requires rows { length self.now.extra.items ≡ 100 }
+        requires { u < 100 }
         ensures { marked result.now ≡ extra_in self.now u }
     {
-        &self.extra[u]
+        &self.extra[u].drives
+    }
+
+    // The price of crossing u.
+    fn price_for(&self, u: usize) -> i64
+        requires { u < 100 }
+        ensures { result ≡ pos (price_in self.now u) }
+    {
+        self.extra[u].price
+    }
+
+    // The prices of the crossings.
+    pub(crate) fn all(&self) -> [i64; 100]
+        ensures { (u : ℕ) → u < 100 → slice_index_or result u (pos 0) ≡ pos (price_in self.now u) }
+    {
+        from_fn(|u| self.price_for(u))
+    }
+
+    // Takes a cheaper set for crossing u in the place of the dearer one.
+    pub(crate) fn replace(&mut self, u: usize, drives: [bool; 300], price: i64)
+        requires below { u < 100 }
+        requires joins { Joins (town_in self.old.problem) (start_in self.old.problem) u (marked drives) }
+        requires costs { price ≡ pos (costs (town_in self.old.problem) (costs_in self.old.problem) (marked drives)) }
+        requires cheaper { costs (town_in self.old.problem) (costs_in self.old.problem) (marked drives) < price_in self.old u }
+        ensures problem { self.new.problem ≡ self.old.problem }
+        ensures lower { all_prices self.new < all_prices self.old }
+    {
+        self.extra[u] = PricedDrives { drives, price };
     }
 
     // Comes to one end of street k from the other where that is cheaper, and says whether it is.
-    fn relax_over(&mut self, problem: &Problem, k: usize, back: bool) -> bool
-        requires priced { Priced problem.now self.old }
-        requires below { k < problem.now.town.now.count }
-        ensures priced { Priced problem.now self.new }
-        ensures bounded { Bounded self.old → Bounded self.new }
-        ensures lowered { Lowered self.old self.new result (Near problem.now self.old k back) }
+    fn relax_over(&mut self, k: usize, back: bool) -> bool
+        requires { k < self.old.problem.town.now.count }
+        ensures { Lowered self.old self.new result (Near self.old k back) }
     {
-        let x = end(problem.town, k, back);
-        let y = end(problem.town, k, !back);
+        let leg = Leg { by: k, back };
+        let x = self.problem.town.begin_of(leg);
+        let y = self.problem.town.end_of(leg);
         let streets = Weighted {
-            town: problem.town,
-            lengths: problem.costs,
+            town: self.problem.town,
+            lengths: self.problem.costs,
         };
-        let cost = streets.cost_flipped(self.extra_for(x), k, self.price[x]);
-        if cost < self.price[y] {
-            self.extra[y] = flip(self.extra_for(x), k);
-            self.price[y] = cost;
+        let cost = streets.cost_flipped(self.extra_for(x), k, self.price_for(x));
+        if cost < self.price_for(y) {
+            self.replace(y, flip(self.extra_for(x), k), cost);
             return true;
         }
         false
     }
 
     // Comes over each street both ways where that is cheaper, and says whether any is.
-    fn sweep(&mut self, problem: &Problem) -> bool
-        requires { Priced problem.now self.old }
-        ensures priced { Priced problem.now self.new }
-        ensures bounded { Bounded self.old → Bounded self.new }
-        ensures lowered { Lowered self.old self.new result (AllNear problem.now self.new problem.now.town.now.count) }
+    fn sweep(&mut self) -> bool
+        ensures { Lowered self.old self.new result (AllNear self.new self.new.problem.town.now.count) }
     {
         let mut any = false;
-        for k in 0..problem.town.count {
-            let there = self.relax_over(problem, k, false);
-            let back = self.relax_over(problem, k, true);
+        for k in 0..self.problem.town.count {
+            let there = self.relax_over(k, false);
+            let back = self.relax_over(k, true);
             any = any || there || back;
         }
         any
     }
 
     // Comes over streets until nothing is cheaper.
-    pub(crate) fn relax(&mut self, problem: &Problem)
-        requires { Priced problem.now self.old }
-        ensures priced { Priced problem.now self.new }
-        ensures bounded { Bounded self.old → Bounded self.new }
-        ensures near { AllNear problem.now self.new problem.now.town.now.count }
+    pub(crate) fn relax(&mut self)
+        ensures problem { self.new.problem ≡ self.old.problem }
+        ensures near { AllNear self.new self.new.problem.town.now.count }
         ensures lower { all_prices self.new ≤ all_prices self.old }
     {
-        while self.sweep(problem) {}
+        while self.sweep() {}
     }
 }

@@ -5,16 +5,13 @@ ghost use Rattle.join.specs.Joins.{◌⊞◌, single};
 ghost use Rattle.join.specs.Amounts.{AllEmpty};
 
 use std::alloc::{AllocError, Global};
+use std::array::from_fn;
 
 // The streets that are in just one of two sets.
 pub(crate) fn xor(a: &[bool; 300], b: &[bool; 300]) -> [bool; 300]
     ensures { marked result ≡ marked a.now ⊞ marked b.now }
 {
-    let mut out = *a;
-    for k in 0..300 {
-        out[k] = a[k] != b[k];
-    }
-    out
+    from_fn(|k| a[k] != b[k])
 }
 
 // A set with street k put in, or taken out.
@@ -25,24 +22,6 @@ pub(crate) fn flip(a: &[bool; 300], k: usize) -> [bool; 300]
     let mut out = *a;
     out[k] = !out[k];
     out
-}
-
-pub(crate) fn no_crossings() -> [bool; 100]
-    ensures { result ≡ replicate 100 false }
-{
-    [false; 100]
-}
-
-pub(crate) fn all_streets() -> [bool; 300]
-    ensures { (k : ℕ) → k < 300 → marked result k ≡ true }
-{
-    [true; 300]
-}
-
-pub(crate) fn no_streets() -> [bool; 300]
-    ensures { result ≡ replicate 300 false }
-{
-    [false; 300]
 }
 
 // One crossing.
@@ -59,9 +38,5 @@ pub(crate) fn only(v: usize) -> [bool; 100]
 pub(crate) fn no_ways(heap: Global) -> Result<Vec<[bool; 300]>, AllocError>
     ensures { IfOk result (λ rows. AllEmpty rows.items 100) }
 {
-    let mut rows = Vec::new(heap);
-    for _ in 0..100usize {
-        rows.push(no_streets())?;
-    }
-    Ok(rows)
+    Ok(vec![in heap; [false; 300]; 100]?)
 }

@@ -1,53 +1,57 @@
-// The charge of a stage put back on lengths and potentials.
-ghost use Rattle.std.specs.Prelude.{◌≡◌, ℕ, ◌+◌, ◌<◌, ◌≤◌, true, false, not, ◌&&◌, pos};
+// The charge of a stage taken off lengths and potentials, and put back.
+ghost use Rattle.std.specs.Prelude.{◌≡◌, ℕ, ◌+◌, ◌<◌, ◌≤◌, true, false, not, ◌&&◌, length};
 ghost use Rattle.road.specs.Counts.{size, cut as cuts};
 ghost use Rattle.road.specs.Model.{marked};
 ghost use Rattle.join.specs.Amounts.{amount, number, Whole, Moves, shifted};
+ghost use Rattle.join.specs.Joins.{shorter};
+ghost use Rattle.join.specs.Potentials.{lower};
 ghost use Rattle.join.specs.Weights.{ground, side_of};
-ghost use Rattle.join.specs.Prices.{town_in, reached_in};
-ghost use Rattle.join.specs.Turns.{lengths_at, potential_at, Filled};
+ghost use Rattle.join.specs.Problems.{town_in, reached_in};
+ghost use Rattle.join.specs.Turns.{lengths_at, potential_at};
 ghost use Rattle.join.specs.Passes.{longer, higher};
 
 use crate::cut::Cut;
 use crate::level::Level;
 use crate::problem::Problem;
 use crate::turn::Stage;
+use std::array;
 
-// Adds a number, which may be negative, to the lengths of the streets that are cut.
-fn shift_streets(lengths: &mut [i64; 300], cut: &Cut, by: i64)
-    requires whole { Whole lengths.old }
-    requires fits { (k : ℕ) → k < size (ground cut.now) → cuts (ground cut.now) (side_of cut.now) k ≡ true → Moves 4000000000 (number lengths.old k) by }
-    ensures whole { Whole lengths.new }
-    ensures is { number lengths.new ≡ shifted (cuts (ground cut.now) (side_of cut.now)) by (number lengths.old) }
+// Adds a number, which may be negative, to the amounts at the places of a set.
+fn shift<const N: usize>(amounts: &mut [i64; N], places: &[bool; N], by: i64)
+    requires whole { Whole amounts.old }
+    requires fits { (k : ℕ) → marked places.now k ≡ true → Moves 1200000000000 (number amounts.old k) by }
+    ensures long { length amounts.new ≡ N }
+    ensures whole { Whole amounts.new }
+    ensures is { number amounts.new ≡ shifted (marked places.now) by (number amounts.old) }
 {
-    for k in 0..cut.town.count {
-        if cut.has(k) {
-            lengths[k] += by;
+    for (k, amount) in amounts.iter_mut().enumerate() {
+        if places[k] {
+            *amount += by;
         }
     }
 }
 
-// Adds a number, which may be negative, to the potentials of the crossings that can be come to and are not marked.
-fn shift_crossings(potential: &mut [i64; 100], reached: &[bool; 100], marks: &[bool; 100], by: i64)
-    requires whole { Whole potential.old }
-    requires fits { (u : ℕ) → (marked reached.now u && not (marked marks.now u)) ≡ true → Moves 1200000000000 (number potential.old u) by }
-    ensures whole { Whole potential.new }
-    ensures is { number potential.new ≡ shifted (λ u. marked reached.now u && not (marked marks.now u)) by (number potential.old) }
+// The crossings that can be come to and are not marked.
+fn outside(reached: &[bool; 100], marks: &[bool; 100]) -> [bool; 100]
+    ensures { marked result ≡ (λ u. marked reached.now u && not (marked marks.now u)) }
 {
-    for u in 0..100 {
-        if reached[u] && !marks[u] {
-            potential[u] += by;
-        }
+    array::from_fn(|u| reached[u] && !marks[u])
+}
+
+impl Cut<'_, '_> {
+    // The streets that are cut.
+    fn streets(&self) -> [bool; 300]
+        ensures { marked result ≡ cuts (ground self.now) (side_of self.now) }
+    {
+        array::from_fn(|k| self.has(k))
     }
 }
 
 impl Level {
     // Adds a number to the lengths of the streets that a class cuts, and to the potentials outside it.
     fn shift(&mut self, problem: &Problem, marks: &[bool; 100], by: i64)
-        requires filled { Filled self.old }
         requires streets { (k : ℕ) → k < size (town_in problem.now) → cuts (town_in problem.now) (marked marks.now) k ≡ true → Moves 4000000000 (lengths_at self.old k) by }
         requires crossings { (u : ℕ) → (reached_in problem.now u && not (marked marks.now u)) ≡ true → Moves 1200000000000 (potential_at self.old u) by }
-        ensures filled { Filled self.new }
         ensures streets { lengths_at self.new ≡ shifted (cuts (town_in problem.now) (marked marks.now)) by (lengths_at self.old) }
         ensures crossings { potential_at self.new ≡ shifted (λ u. reached_in problem.now u && not (marked marks.now u)) by (potential_at self.old) }
     {
@@ -55,17 +59,24 @@ impl Level {
             town: problem.town,
             marks,
         };
-        shift_streets(&mut self.lengths, &cut, by);
-        shift_crossings(&mut self.potential, problem.reached, marks, by);
+        shift(&mut self.lengths, &cut.streets(), by);
+        shift(&mut self.potential, &outside(problem.reached, marks), by);
+    }
+
+    // Takes the charge of a stage off the streets that its class cuts, and off the crossings outside.
+    pub(crate) fn charge(&mut self, problem: &Problem, stage: &Stage)
+        requires streets { (k : ℕ) → k < size (town_in problem.now) → cuts (town_in problem.now) (marked stage.now.marks) k ≡ true → amount stage.now.charge ≤ lengths_at self.old k }
+        requires crossings { (u : ℕ) → reached_in problem.now u ≡ true → marked stage.now.marks u ≡ false → amount stage.now.charge ≤ potential_at self.old u }
+        ensures streets { lengths_at self.new ≡ shorter (town_in problem.now) (marked stage.now.marks) (amount stage.now.charge) (lengths_at self.old) }
+        ensures crossings { potential_at self.new ≡ lower (reached_in problem.now) (marked stage.now.marks) (amount stage.now.charge) (potential_at self.old) }
+    {
+        self.shift(problem, &stage.marks, -stage.charge);
     }
 
     // Puts the charge of a stage back on the streets that its class cuts, and on the crossings outside.
     pub(crate) fn restore(&mut self, problem: &Problem, stage: &Stage)
-        requires filled { Filled self.old }
-        requires whole { stage.now.charge ≡ pos (amount stage.now.charge) }
         requires streets { (k : ℕ) → k < size (town_in problem.now) → cuts (town_in problem.now) (marked stage.now.marks) k ≡ true → lengths_at self.old k + amount stage.now.charge ≤ 4000000000 }
         requires crossings { (u : ℕ) → reached_in problem.now u ≡ true → marked stage.now.marks u ≡ false → potential_at self.old u + amount stage.now.charge ≤ 1200000000000 }
-        ensures filled { Filled self.new }
         ensures streets { lengths_at self.new ≡ longer (town_in problem.now) (marked stage.now.marks) (amount stage.now.charge) (lengths_at self.old) }
         ensures crossings { potential_at self.new ≡ higher (reached_in problem.now) (marked stage.now.marks) (amount stage.now.charge) (potential_at self.old) }
     {

@@ -3,9 +3,9 @@ ghost use Rattle.std.specs.Prelude.{◌≡◌, ℕ, ◌/◌, ◌<◌, ◌≤◌,
 ghost use Rattle.road.specs.Counts.{cut as cuts};
 ghost use Rattle.join.specs.Joins.{Room};
 ghost use Rattle.join.specs.Weights.{ground, side_of};
-ghost use Rattle.join.specs.Prices.{reached_in};
+ghost use Rattle.join.specs.Problems.{reached_in};
 ghost use Rattle.join.specs.Potentials.{Lowest, Tightest, slack as leaves};
-ghost use Rattle.join.specs.Turns.{lengths_at, potential_at, Filled};
+ghost use Rattle.join.specs.Turns.{lengths_at, potential_at};
 
 use crate::cut::Cut;
 use crate::level::Level;
@@ -21,22 +21,21 @@ fn half(amount: i64) -> i64
 impl Level {
     // A crossing that can be come to, with the least potential.
     pub(crate) fn least(&self, problem: &Problem) -> usize
-        requires { Filled self.now }
         ensures below { result < 100 }
         ensures lowest { Lowest (reached_in problem.now) (potential_at self.now) result }
     {
-        let mut b = problem.town.depot;
-        for u in 0..100 {
+        (0..100).fold(problem.town.depot, |b, u| {
             if problem.reached[u] && self.potential[u] < self.potential[b] {
-                b = u;
+                u
+            } else {
+                b
             }
-        }
-        b
+        })
     }
 
     // How much a cut street leaves to be charged.
     pub(crate) fn slack(&self, cut: &Cut, b: usize, k: usize) -> i64
-        requires filled { (Filled self.now) × (b < 100) }
+        requires base { b < 100 }
         requires room { Room (ground cut.now) (lengths_at self.now) (potential_at self.now) b (side_of cut.now) 1 }
         requires below { k < cut.now.town.now.count }
         requires cuts { cuts (ground cut.now) (side_of cut.now) k ≡ true }
@@ -49,20 +48,18 @@ impl Level {
 
     // Of the cut streets, of which k is one, the one that leaves least to be charged.
     pub(crate) fn tightest(&self, cut: &Cut, b: usize, k: usize) -> usize
-        requires filled { (Filled self.now) × (b < 100) }
+        requires base { b < 100 }
         requires room { Room (ground cut.now) (lengths_at self.now) (potential_at self.now) b (side_of cut.now) 1 }
         requires below { k < cut.now.town.now.count }
         requires cuts { cuts (ground cut.now) (side_of cut.now) k ≡ true }
         ensures { Tightest (ground cut.now) (lengths_at self.now) (potential_at self.now) b (side_of cut.now) cut.now.town.now.count result }
     {
-        let mut best = k;
-        for j in 0..cut.town.count {
-            if cut.has(j) {
-                if self.slack(cut, b, j) < self.slack(cut, b, best) {
-                    best = j;
-                }
+        (0..cut.town.count).fold(k, |best, j| {
+            if cut.has(j) && self.slack(cut, b, j) < self.slack(cut, b, best) {
+                j
+            } else {
+                best
             }
-        }
-        best
+        })
     }
 }

@@ -26,11 +26,8 @@ fn has_one_end(town: &Town, set: &[bool; 300], k: usize, v: usize) -> bool
 fn is_odd(town: &Town, set: &[bool; 300], v: usize) -> bool
     ensures { result ≡ odd_at (model town.now) (marked set.now) v }
 {
-    let mut odd = false;
-    for k in 0..town.count {
-        odd = odd != has_one_end(town, set, k, v);
-    }
-    odd
+    let ends = (0..town.count).filter(|&k| has_one_end(town, set, k, v));
+    ends.count() % 2 == 1
 }
 
 // The first odd crossing.
@@ -38,12 +35,7 @@ pub fn first_odd(town: &Town, set: &[bool; 300]) -> Option<usize>
     ensures { MatchOption result ((v : ℕ) → v < town.now.crossings → odd_at (model town.now) (marked set.now) v ≡ false)
         (λ v. (v < town.now.crossings) × (odd_at (model town.now) (marked set.now) v ≡ true)) }
 {
-    for v in 0..town.crossings {
-        if is_odd(town, set, v) {
-            return Some(v);
-        }
-    }
-    None
+    (0..town.crossings).find(|&v| is_odd(town, set, v))
 }
 
 // A set with the street of each leg put in, or taken out.
@@ -67,10 +59,7 @@ fn distance_to_odd(town: &Town, set: &[bool; 300], ways: &Ways, v: usize, w: usi
     if w == v || !is_odd(town, set, w) {
         return None;
     }
-    match ways.distance(w) {
-        Ok(distance) => distance,
-        Err(_) => None,
-    }
+    ways.distance(w).ok().flatten()
 }
 
 // The nearest odd crossing other than v to which there is a way.
@@ -78,17 +67,13 @@ fn nearest(town: &Town, set: &[bool; 300], ways: &Ways, v: usize) -> Option<usiz
     requires { places ways.now ≡ town.now.crossings }
     ensures { Other (model town.now) (marked set.now) ways.now v town.now.crossings result }
 {
-    let mut best = None;
-    let mut least = u64::MAX;
-    for w in 0..town.crossings {
-        if let Some(distance) = distance_to_odd(town, set, ways, v, w) {
-            if distance <= least {
-                best = Some(w);
-                least = distance;
-            }
-        }
-    }
-    best
+    // From the last on: of crossings that are equally near the last is taken.
+    let others = (0..town.crossings).rev().filter_map(|w| {
+        let distance = distance_to_odd(town, set, ways, v, w)?;
+        Some((w, distance))
+    });
+    let (w, _) = others.min_by_key(|&(_, distance)| distance)?;
+    Some(w)
 }
 
 // The way to a crossing, if there is one.
@@ -96,10 +81,7 @@ pub(crate) fn way_to(ways: &Ways, w: usize) -> Option<&Way>
     requires { w < places ways.now }
     ensures { option_map (λ x. x.now) result ≡ to ways.now w }
 {
-    match ways.way(w) {
-        Ok(way) => way,
-        Err(_) => None,
-    }
+    ways.way(w).ok().flatten()
 }
 
 // The ways from a crossing of the town.
@@ -107,11 +89,10 @@ pub(crate) fn ways_from(town: &Town, v: usize, heap: Global) -> Result<Ways, All
     requires { v < town.now.crossings }
     ensures { IfOk result (λ ways. AllShown (model town.now) v ways) }
 {
-    match Ways::new(town, v, heap) {
-        Ok(ways) => Ok(ways),
-        Err(NoWays::Memory(e)) => Err(e),
-        Err(NoWays::NoCrossing(_)) => unreachable(),
-    }
+    Ways::new(town, v, heap).map_err(|error| match error {
+        NoWays::Memory(error) => error,
+        NoWays::NoCrossing(_) => unreachable(),
+    })
 }
 
 // Joins the odd crossing v with the nearest other, along a shortest way.

@@ -1,4 +1,6 @@
 // What a turn of a pass finds.
+ghost use Rattle.std.specs.Prelude.{◌≡◌, pos};
+ghost use Rattle.join.specs.Amounts.{amount};
 
 // A set of extra drives for a crossing.
 #[derive(Drop)]
@@ -13,8 +15,10 @@ pub struct Stage {
     pub marks: [bool; 100],
     pub charge: i64,
     pub base: usize,
+    ghost whole: { charge ≡ pos (amount charge) },
 }
 
+// One of three ends, each with a name of its own: as a `Result` of an `Option` they would have none.
 pub(crate) enum Turn {
     // A set that costs less than the potential of its crossing.
     Better(Found),

@@ -1,22 +1,21 @@
 // Classes merged along the streets of no length.
-ghost use Rattle.std.specs.Prelude.{◌≡◌, ℕ, ◌<◌, length};
+ghost use Rattle.std.specs.Prelude.{◌≡◌, ℕ, ◌<◌};
 ghost use Rattle.road.specs.Counts.{one, two};
 ghost use Rattle.road.specs.Model.{marked};
 ghost use Rattle.join.specs.Joins.{◌⊞◌, single};
 ghost use Rattle.join.specs.Weights.{town_of, lengths_of};
-ghost use Rattle.join.specs.Classes.{way_in, label_in, Full, Classed, Merged, Absorbed, Kept, class_in};
+ghost use Rattle.join.specs.Classes.{way_in, label_in, Classed, Merged, Absorbed, Kept, class_in};
 ghost use Rattle.join.specs.Progress.{Progress};
 
-use crate::cuts::end;
 use crate::partition::Classes;
-use crate::sets::{flip, no_crossings, xor};
+use crate::sets::{flip, xor};
 use crate::weighted::Weighted;
+use std::array::from_fn;
 
 impl Classes {
     // The way to crossing v.
     pub(crate) fn way_to(&self, v: usize) -> &[bool; 300]
-        requires below { v < 100 }
-        requires full { Full self.now }
+        requires { v < 100 }
         ensures { marked result.now ≡ way_in self.now v }
     {
         &self.way[v]
@@ -24,9 +23,9 @@ impl Classes {
 
     // Brings the crossings of one class into another, to which the link leads.
     fn absorb(&mut self, from: usize, to: usize, link: &[bool; 300])
-        requires { Full self.old }
         ensures { Absorbed from to (marked link.now) self.old self.new 100 }
     {
+        // By index: over labels and ways zipped by `iter_mut` no proof was found.
         for v in 0..100 {
             if self.label[v] == from {
                 self.label[v] = to;
@@ -47,15 +46,14 @@ impl Classes {
         if !streets.is_free(k) {
             return;
         }
-        let x = end(streets.town, k, false);
-        let y = end(streets.town, k, true);
-        let to = self.label[x];
-        let from = self.label[y];
+        let street = streets.town.street(k);
+        let to = self.label[street.one];
+        let from = self.label[street.two];
         if from == to {
             return;
         }
-        let there = flip(self.way_to(x), k);
-        let link = xor(&there, self.way_to(y));
+        let there = flip(self.way_to(street.one), k);
+        let link = xor(&there, self.way_to(street.two));
         self.absorb(from, to, &link);
     }
 
@@ -74,21 +72,15 @@ impl Classes {
 
     // The crossings of the class of b.
     pub(crate) fn class_of(&self, b: usize) -> [bool; 100]
-        requires full { Full self.now }
-        requires below { b < 100 }
+        requires { b < 100 }
         ensures { marked result ≡ class_in self.now b }
     {
-        let mut marks = no_crossings();
-        for v in 0..100 {
-            marks[v] = self.label[v] == self.label[b];
-        }
-        marks
+        from_fn(|v| self.label[v] == self.label[b])
     }
 
     // A set that goes on by the way from b to x in their class, and then over street k.
     pub(crate) fn lead_on(&self, drives: &[bool; 300], b: usize, x: usize, k: usize) -> [bool; 300]
-        requires full { Full self.now }
-        requires below { (b < 100) × ((x < 100) × (k < 300)) }
+        requires { (b < 100) × ((x < 100) × (k < 300)) }
         ensures { marked result ≡ (marked drives.now ⊞ (way_in self.now b ⊞ way_in self.now x)) ⊞ single k }
     {
         let inside = xor(self.way_to(b), self.way_to(x));

@@ -28,13 +28,10 @@ impl Weighted<'_, '_> {
     pub(crate) fn cost(&self, drives: &[bool; 300]) -> i64
         ensures is { result ≡ pos (costs (town_of self.now) (lengths_of self.now) (marked drives.now)) }
     {
-        let mut sum = 0;
-        for k in 0..self.town.count {
-            if drives[k] {
-                sum += self.length(k);
-            }
-        }
-        sum
+        (0..self.town.count)
+            .filter(|&k| drives[k])
+            .map(|k| self.length(k))
+            .sum()
     }
 
     // What a set costs with street k put in, or taken out.
@@ -56,11 +53,6 @@ impl Weighted<'_, '_> {
         ensures { MatchOption result (Zero (town_of self.now) (lengths_of self.now) (marked drives.now))
             (λ k. (k < self.now.town.now.count) × (marked drives.now k ≡ true) × (0 < lengths_of self.now k)) }
     {
-        for k in 0..self.town.count {
-            if drives[k] && self.length(k) > 0 {
-                return Some(k);
-            }
-        }
-        None
+        (0..self.town.count).find(|&k| drives[k] && self.length(k) > 0)
     }
 }

@@ -1,4 +1,5 @@
 -- The lemmas, by topic.
+pub mod Chains
 pub mod Walks
 pub mod Pairings
 pub mod DepotExtra

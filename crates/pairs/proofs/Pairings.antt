@@ -16,17 +16,14 @@ use Rattle.join.proofs.Linear.{linear_once, join_singles}
 use Rattle.join.proofs.Pairing.{drive_streets}
 use Rattle.join.proofs.StreetSets.{when_le}
 use Rattle.pairs.specs.declared.pair.Pair.{Pair}
-use Rattle.pairs.specs.Walks.{Walk, walk_of, IsWalk, walk_ends, Taken}
-use Rattle.pairs.specs.Pairings.{walks_of, Each, over, ends_at, drives_of, far_of, Pairing, NoShorter, Paired}
+use Rattle.pairs.specs.Walks.{Walk, walk_of, IsWalk, walk_ends, Each, Taken}
+use Rattle.pairs.specs.Pairings.{walks_of, over, ends_at, drives_of, far_of, Pairing, NoShorter, Paired}
+use Rattle.pairs.proofs.Walks.{each_append}
 
 -- one walk more
 over_push : (f : Walk → ℕ) (qs : List Walk) (q : Walk) → over f (qs ++ q ∷ []) ≡ over f qs + f q
 over_push f [] q = omega arith
 over_push f (p ∷ qs) q = omega (arith, over_push f qs q)
-
-each_push : (P : Walk → Type 0) (qs : List Walk) (q : Walk) → Each P qs → P q → Each P (qs ++ q ∷ [])
-each_push P [] q u h = (h, tt)
-each_push P (p ∷ qs) q (g, gs) h = (g, each_push P qs q gs h)
 
 -- how far walks are, counted over the streets
 pub far_total : (t : Town) (qs : List Walk) → Each (IsWalk t) qs → far_of t qs ≡ total t (λ k. drives_of k qs)
@@ -85,7 +82,7 @@ left_start t J L ps e f = rw (e, f) (record { drives = tt; taken = λ k. omega a
 
 pub left_more : (t : Town) (J L L' : Set) (ps ps' : List Pair) (p : Pair) → ps' ≡ ps ++ p ∷ [] → Left t J L (walks_of ps) → Taken t L L' (walk_of p) → Left t J L' (walks_of ps')
 left_more t J L L' ps ps' p e s w = rw (e, map-append walk_of ps (p ∷ [])) (record {
-  drives = each_push (IsWalk t) (walks_of ps) (walk_of p) s.drives w.drive;
+  drives = each_append (IsWalk t) (walks_of ps) (walk_of p ∷ []) s.drives (w.drive, tt);
   taken = λ k. omega (arith, s.taken k, w.taken k, over_push (λ q. times k q.legs) (walks_of ps) (walk_of p));
   ends = λ v. omega (arith, s.ends v, w.ends v, over_push (walk_ends v) (walks_of ps) (walk_of p));
 })

@@ -1,12 +1,13 @@
 -- Walks over streets of a set: one leg more, and where a walk is stuck. Assumes nothing.
-use Rattle.std.proofs.Common.{◌≡◌, ℕ, ◌+◌, ◌<◌, ◌≤◌, Bool, true, false, eqb, List, [], ◌∷◌, ◌++◌, length, set, sym, refl, ap, ◌∙◌, subst, ap₂, ⊎_elim, arith}
+use Rattle.std.proofs.Common.{◌≡◌, ℕ, ◌+◌, ◌-◌, ◌<◌, ◌≤◌, Bool, true, false, eqb, ltb, Option, Some, None, MatchOption, List, [], ◌∷◌, ◌++◌, length, get_or, sym, refl, ap, ◌∙◌, subst, ap₂, ⊎_elim, arith}
 use mathlib.Core.Path.{fun_ext}
-use Rattle.std.proofs.lemmas.List.{get_or-set_same, get_or-set_other}
-use Rattle.std.proofs.lemmas.Bool.{both_ways, cases_Bool, cases_eq, eq-eqb, ne_eqb, eqb-true}
+use Rattle.std.specs.List.{All, HoldsAt, filter, range_with_len}
+use Rattle.std.proofs.lemmas.List.Elements.{All-filter, filter_passes}
+use Rattle.std.proofs.lemmas.List.FromFn.{length-range_with_len, get_or-range_with_len}
+use Rattle.std.proofs.lemmas.Bool.{both_ways, lt-ltb, ltb-true, cases_Bool, cases_eq, eq-eqb, ne_eqb, eqb-true}
 use Rattle.road.specs.declared.leg.Leg.{Leg}
-use Rattle.road.specs.Roads.{Town, from, into, Drive, stay, times}
-use Rattle.road.specs.Counts.{◌⊕◌, bit, odd, sum, size, one, two, Set}
-use Rattle.road.specs.Model.{marked}
+use Rattle.road.specs.Roads.{Town, into, Drive, stay, times}
+use Rattle.road.specs.Counts.{◌⊕◌, bit, odd, sum, size, one, two, ends, Set}
 use Rattle.road.proofs.Parity.{xor_false, xor_comm, xor_cancel, xor_same, odd_add, odd_bit}
 use Rattle.road.proofs.Sums.{sum_point}
 use Rattle.road.proofs.Drives.{drive_push, times_append, times_first, times_other}
@@ -14,59 +15,83 @@ use Rattle.join.specs.Joins.{◌⊞◌, single}
 use Rattle.join.specs.Odd.{odd_at, streets_of}
 use Rattle.join.proofs.Joins.{out_none}
 use Rattle.join.proofs.Pairing.{drive_streets, odd_changed}
-use Rattle.pairs.specs.Walks.{LeadsOn, Stuck, Taken}
+use Rattle.pairs.specs.Walks.{Walk, Forth, Each, LeadsOver, LeadsOn, Clear, Walked, Taken}
+use Rattle.pairs.proofs.Chains.{all_passing}
+
+-- a leg over the first street that is left and has an end at a crossing, where the streets are looked through one after the other
+module _ (t : Town) (c : ℕ → ℕ) (v n : ℕ) (few : n ≤ size t) where
+  abbrev looked : List ℕ
+  looked = filter (λ k. ltb 0 (c k)) (range_with_len 0 n)
+
+  abbrev pub Leads : ℕ → Option Leg → Type 0
+  Leads k o = MatchOption o (ends t k v ≡ 0) (LeadsOver t k v)
+
+  pub first_leg : (r : Option Leg) → MatchOption r (All (λ k. Leads k None) looked) (λ l. (i : ℕ) × (i < length looked) × HoldsAt (λ k. Leads k (Some l)) looked i) →
+      MatchOption r (Clear t c v n) (LeadsOn t c v)
+  first_leg None none = λ k h p.
+      let at : get_or (range_with_len 0 n) k 0 ≡ k = omega (arith, get_or-range_with_len 0 n k 0 h) in
+      subst (λ j. ltb 0 (c j) ≡ true → ends t j v ≡ 0) at
+      (all_passing (λ k. ltb 0 (c k)) (λ k. ends t k v ≡ 0) (range_with_len 0 n) none k 0 (omega (arith, length-range_with_len 0 n))) (lt-ltb 0 (c k) p)
+  first_leg (Some l) (i, h, leads) =
+      let k = get_or looked i 0 in
+      let over : LeadsOver t k v l = leads 0 in
+      let below : All (λ k. k < n) (range_with_len 0 n) = λ j d b. omega (arith, get_or-range_with_len 0 n j d, length-range_with_len 0 n) in
+      let inside : k < n = All-filter (λ k. ltb 0 (c k)) (λ k. k < n) (range_with_len 0 n) below i 0 h in
+      let some : 0 < c k = ltb-true 0 (c k) (filter_passes (λ k. ltb 0 (c k)) (range_with_len 0 n) i 0 h) in
+      record { below = omega (arith, over.by); left = subst (λ j. 0 < c j) (sym over.by) some; begins = over.begins; forth = over.forth }
+
+-- what holds of each of two lists holds of each of both
+pub each_append : {X : Type 0} (P : X → Type 0) (xs ys : List X) → Each P xs → Each P ys → Each P (xs ++ ys)
+each_append P [] ys u h = h
+each_append P (x ∷ xs) ys (g, gs) h = (g, each_append P xs ys gs h)
 
 -- a walk that is under way: of the counts c it took off one for each leg, and d is left
 pub record Going (t : Town) (c d : ℕ → ℕ) (v w : ℕ) (ls : List Leg) : Type 0 where
   pub drive : Drive t v ls w
   pub taken : (k : ℕ) → times k ls + d k ≡ c k
+  pub forth : Each (Forth t) ls
 
 pub going_start : (t : Town) (c : ℕ → ℕ) (v : ℕ) (ls : List Leg) → ls ≡ [] → Going t c c v v ls
 unfolding times
-going_start t c v ls e = rw e (record { drive = stay v; taken = λ k. omega arith })
+going_start t c v ls e = rw e (record { drive = stay v; taken = λ k. omega arith; forth = tt })
 
 -- one is taken off at one place
-pub record OneLess (c d : ℕ → ℕ) (j : ℕ) : Type 0 where
-  pub here : c j ≡ d j + 1
-  pub other : (k : ℕ) → (j ≡ k → ⊥) → c k ≡ d k
+abbrev pub OneLess : (c d : ℕ → ℕ) (j : ℕ) → Type 0
+OneLess c d j = (k : ℕ) → d k ≡ c k - bit (eqb j k)
 
--- one leg more
-pub going_on : (t : Town) (c d d' : ℕ → ℕ) (v w : ℕ) (ls : List Leg) (l : Leg) → Going t c d v w ls → l.by < size t → from t l ≡ w → OneLess d d' l.by →
-    (w' : ℕ) (ls' : List Leg) → w' ≡ into t l → ls' ≡ ls ++ l ∷ [] → Going t c d' v w' ls'
-unfolding times
-going_on t c d d' v w ls l g below begins less w' ls' e f = rw (e, f) (record {
-  drive = drive_push t l (subst (λ x. Drive t v ls x) (sym begins) g.drive) below;
-  taken = λ k. ⊎_elim (here k) (other k) (cases_eq l.by k);
-})
-  where
-    here : (k : ℕ) → l.by ≡ k → times k (ls ++ l ∷ []) + d' k ≡ c k
-    here k e = rw (← e) (omega (arith, g.taken l.by, times_append l.by ls (l ∷ []), times_first l [], less.here))
+module _ {t : Town} {d : ℕ → ℕ} {w : ℕ} {l : Leg} (d' : ℕ → ℕ) (on : LeadsOn t d w l) (less : OneLess d d' l.by) where
+  here : d l.by ≡ d' l.by + 1
+  here = omega (arith, less l.by, on.left, ap bit (eq-eqb l.by l.by refl))
 
-    other : (k : ℕ) → (l.by ≡ k → ⊥) → times k (ls ++ l ∷ []) + d' k ≡ c k
-    other k ne = omega (arith, g.taken k, times_append k ls (l ∷ []), times_other k l [] ne, less.other k ne)
+  other : (k : ℕ) → (l.by ≡ k → ⊥) → d k ≡ d' k
+  other k ne = omega (arith, less k, ap bit (ne_eqb l.by k ne))
 
--- and less is left
-pub fewer_left : (n : ℕ) (c d : ℕ → ℕ) (j : ℕ) → j < n → OneLess c d j → sum n d < sum n c
-fewer_left n c d j h less = omega (arith, sum_point n j 1 c d h less.here (λ k _. less.other k))
+  -- one leg more
+  pub going_on : {c : ℕ → ℕ} {v w' : ℕ} {ls ls' : List Leg} → Going t c d v w ls → w' ≡ into t l → ls' ≡ ls ++ l ∷ [] → Going t c d' v w' ls'
+  unfolding times
+  going_on {c = c} {v = v} {ls = ls} g e f = rw (e, f) (record {
+    drive = drive_push t l (subst (λ x. Drive t v ls x) (sym on.begins) g.drive) on.below;
+    taken = λ k. ⊎_elim (same k) (differ k) (cases_eq l.by k);
+    forth = each_append (Forth t) ls (l ∷ []) g.forth (on.forth, tt);
+  })
+    where
+      same : (k : ℕ) → l.by ≡ k → times k (ls ++ l ∷ []) + d' k ≡ c k
+      same k e = rw (← e) (omega (arith, g.taken l.by, times_append l.by ls (l ∷ []), times_first l [], here))
 
--- the counts of a set, and how many streets are left in marks
+      differ : (k : ℕ) → (l.by ≡ k → ⊥) → times k (ls ++ l ∷ []) + d' k ≡ c k
+      differ k ne = omega (arith, g.taken k, times_append k ls (l ∷ []), times_other k l [] ne, other k ne)
+
+  -- and less is left
+  pub fewer_left : sum (size t) d' < sum (size t) d
+  fewer_left = omega (arith, sum_point (size t) l.by 1 d d' on.below here (λ k _. other k))
+
+-- the counts of a set
 abbrev pub bits : Set → ℕ → ℕ
 bits J k = bit (J k)
 
-abbrev pub marks_left : List Bool → ℕ
-marks_left ms = sum 300 (bits (marked ms))
-
--- a street taken off a set
-pub mark_less : (t : Town) (ms : List Bool) (w : ℕ) (l : Leg) → size t ≤ 300 → length ms ≡ 300 → LeadsOn t (marked ms) w l →
-    OneLess (bits (marked ms)) (bits (marked (set ms l.by false))) l.by
-mark_less t ms w l few places on = record {
-  here = omega (arith, ap bit on.own, ap bit (get_or-set_same ms l.by false false (omega (arith, on.below))));
-  other = λ k ne. ap bit (sym (get_or-set_other ms l.by k false false (λ e. ne (sym e))));
-}
-
 -- where no street of a set has an end, it is even
-pub stuck_even : (t : Town) (L : Set) (w : ℕ) → Stuck t L w (size t) → odd_at t L w ≡ false
-stuck_even t L w h = out_none t L (single w) (λ k i c. ⊎_elim (λ y. absurd (at (eqb (one t k) w) (eqb (two t k) w) (h k i y) c)) (λ n. n) (cases_Bool (L k)))
+pub stuck_even : (t : Town) (L : Set) (w : ℕ) → Clear t (bits L) w (size t) → odd_at t L w ≡ false
+stuck_even t L w h = out_none t L (single w) (λ k i c. ⊎_elim (λ y. absurd (at (eqb (one t k) w) (eqb (two t k) w) (h k i (omega (arith, ap bit y))) c)) (λ n. n) (cases_Bool (L k)))
   where
     at : (a b : Bool) → bit a + bit b ≡ 0 → a ⊕ b ≡ true → ⊥
     at true b e c = omega arith
@@ -74,8 +99,8 @@ stuck_even t L w h = out_none t L (single w) (λ k i c. ⊎_elim (λ y. absurd (
     at false false e c = both_ways false refl c
 
 -- what is left differs by the streets of the walk
-going_left : (t : Town) (J L : Set) (v w : ℕ) (ls : List Leg) → Going t (bits J) (bits L) v w ls → L ≡ J ⊞ streets_of ls
-going_left t J L v w ls g = fun_ext (λ k. at (times k ls) (L k) (J k) (g.taken k))
+left_streets : (J L : Set) (ls : List Leg) → ((k : ℕ) → times k ls + bit (L k) ≡ bit (J k)) → L ≡ J ⊞ streets_of ls
+left_streets J L ls taken = fun_ext (λ k. at (times k ls) (L k) (J k) (taken k))
   where
     at : (n : ℕ) (a b : Bool) → n + bit a ≡ bit b → a ≡ b ⊕ odd n
     at n a b e =
@@ -83,17 +108,23 @@ going_left t J L v w ls g = fun_ext (λ k. at (times k ls) (L k) (J k) (g.taken 
         sym (ap (λ x. x ⊕ odd n) (sym q) ∙ xor_comm (odd n ⊕ a) (odd n) ∙ xor_cancel (odd n) a)
 
 -- a walk from an odd crossing is stuck at another that was odd
-module _ (t : Town) (J L : Set) (v w : ℕ) (ls : List Leg) (g : Going t (bits J) (bits L) v w ls) (stuck : Stuck t L w (size t)) (ov : odd_at t J v ≡ true) where
+module _ (t : Town) (J L : Set) (q : Walk) (g : Walked t (bits J) (bits L) q) (ov : odd_at t J q.one ≡ true) where
+  abbrev v : ℕ
+  v = q.one
+
+  abbrev w : ℕ
+  w = q.two
+
   changed : (u : ℕ) → odd_at t L u ≡ (odd_at t J u ⊕ eqb v u) ⊕ eqb w u
-  changed u = ap (λ (K : Set). odd_at t K u) (going_left t J L v w ls g) ∙ odd_changed t J (streets_of ls) v w (drive_streets t v w ls g.drive) u
+  changed u = ap (λ (K : Set). odd_at t K u) (left_streets J L q.legs g.taken) ∙ odd_changed t J (streets_of q.legs) v w (drive_streets t v w q.legs g.drive) u
 
   end_odd : (odd_at t J w ⊕ eqb v w) ≡ true
-  end_odd = xor_same (odd_at t J w ⊕ eqb v w) (eqb w w) (sym (changed w) ∙ stuck_even t L w stuck) ∙ eq-eqb w w refl
+  end_odd = xor_same (odd_at t J w ⊕ eqb v w) (eqb w w) (sym (changed w) ∙ stuck_even t L w g.clear) ∙ eq-eqb w w refl
 
   elsewhere : v ≡ w → ⊥
   elsewhere e = both_ways true (sym end_odd ∙ ap₂ (λ a b. a ⊕ b) (ap (odd_at t J) (sym e) ∙ ov) (eq-eqb v w e)) refl
 
-  pub walk_stuck : Taken t J L (record { one = v; two = w; legs = ls })
+  walk_stuck : Taken t J L q
   walk_stuck = record { drive = g.drive; taken = g.taken; ends = ends }
     where
       at : (o a b : Bool) → (a ≡ true → o ≡ true) → (b ≡ true → o ≡ true) → (a ≡ true → b ≡ true → ⊥) → bit a + bit b + bit ((o ⊕ a) ⊕ b) ≡ bit o
@@ -115,3 +146,7 @@ module _ (t : Town) (J L : Set) (v w : ℕ) (ls : List Leg) (g : Going t (bits J
           (λ e. ap (odd_at t J) (sym (eqb-true v u e)) ∙ ov)
           (λ e. ap (odd_at t J) (sym (eqb-true w u e)) ∙ w_odd)
           (λ e f. elsewhere (eqb-true v u e ∙ sym (eqb-true w u f)))
+
+-- so it has taken off what it drives, and made its two ends even
+pub trail_taken : (t : Town) (J L : Set) (v : ℕ) (q : Walk) → (q.one ≡ v) × Walked t (bits J) (bits L) q → odd_at t J v ≡ true → Taken t J L q
+trail_taken t J L v q (e, g) ov = walk_stuck t J L q g (ap (odd_at t J) e ∙ ov)

@@ -7,7 +7,7 @@ use Rattle.join.specs.Extra.{extra_length}
 use Rattle.join.specs.Odd.{odd_at}
 use Rattle.join.specs.Laws.{depot_of, extra_of}
 use Rattle.pairs.specs.declared.pair.Pair.{Pair}
-use Rattle.pairs.specs.Walks.{Walk, walk_of, IsWalk, walk_ends}
+use Rattle.pairs.specs.Walks.{Walk, walk_of, IsWalk, walk_ends, Each}
 
 -- the extra drives to the depot
 abbrev pub depot_extra : LeastDrives → Set
@@ -15,11 +15,6 @@ depot_extra s = extra_of s (depot_of s)
 
 abbrev pub walks_of : List Pair → List Walk
 walks_of ps = map walk_of ps
-
--- something holds of each walk
-abbrev pub Each : (Walk → Type 0) → List Walk → Type 0
-Each P [] = Unit {0}
-Each P (q ∷ qs) = P q × Each P qs
 
 -- a number for each walk, added up
 abbrev pub over : (Walk → ℕ) → List Walk → ℕ

@@ -1,5 +1,5 @@
--- Walks over streets of a set that are taken off as they are driven. Assumes nothing: these are definitions.
-use Rattle.std.specs.Prelude.{◌≡◌, ℕ, ◌+◌, ◌<◌, true, false, List, vec_items, ◌==◌}
+-- Walks over streets that are left, each taken off as it is driven. Assumes nothing: these are definitions.
+use Rattle.std.specs.Prelude.{◌≡◌, ℕ, ◌+◌, ◌<◌, false, List, [], ◌∷◌, vec_items, ◌==◌}
 use Rattle.road.specs.declared.leg.Leg.{Leg}
 use Rattle.road.specs.Roads.{Town, from, Drive, times}
 use Rattle.road.specs.Counts.{bit, size, one, two, ends, Set}
@@ -33,15 +33,28 @@ pub record LeadsOver (t : Town) (k v : ℕ) (l : Leg) : Type 0 where
   pub begins : from t l ≡ v
   pub forth : Forth t l
 
--- a leg leads on from v over a street of J
-pub record LeadsOn (t : Town) (J : Set) (v : ℕ) (l : Leg) : Type 0 where
-  pub below : l.by < size t
-  pub own : J l.by ≡ true
-  pub begins : from t l ≡ v
+-- something holds of each
+abbrev pub Each : {X : Type 0} → (X → Type 0) → List X → Type 0
+Each P [] = Unit {0}
+Each P (x ∷ xs) = P x × Each P xs
 
--- no street of J, of the first n, has an end at v
-abbrev pub Stuck : Town → Set → ℕ → ℕ → Type 0
-Stuck t J v n = (k : ℕ) → k < n → J k ≡ true → ends t k v ≡ 0
+-- a leg leads on from v over a street that is left, where street k is left c k times
+pub record LeadsOn (t : Town) (c : ℕ → ℕ) (v : ℕ) (l : Leg) : Type 0 where
+  pub below : l.by < size t
+  pub left : 0 < c l.by
+  pub begins : from t l ≡ v
+  pub forth : Forth t l
+
+-- no street, of the first n, that is left has an end at v
+abbrev pub Clear : Town → (ℕ → ℕ) → ℕ → ℕ → Type 0
+Clear t c v n = (k : ℕ) → k < n → 0 < c k → ends t k v ≡ 0
+
+-- of the streets that were left, c, a walk took off each as often as it drives it; d is left, nothing of it where the walk ends
+pub record Walked (t : Town) (c d : ℕ → ℕ) (q : Walk) : Type 0 where
+  pub drive : IsWalk t q
+  pub taken : (k : ℕ) → times k q.legs + d k ≡ c k
+  pub forth : Each (Forth t) q.legs
+  pub clear : Clear t d q.two (size t)
 
 -- of the streets of J a walk has taken off those that it drives, each once; L is left. Its two ends were odd and are even, and no other crossing has changed
 pub record Taken (t : Town) (J L : Set) (q : Walk) : Type 0 where

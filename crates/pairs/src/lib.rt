@@ -2,10 +2,12 @@
 #![tactic(auto)]
 
 mod laws;
+mod multiset;
 mod pair;
 mod pairing;
 mod walk;
 
+pub use multiset::Multiset;
 pub use pair::Pair;
 pub use pairing::{drives_to_depot, pair_up};
-pub use walk::leg_from;
+pub use walk::{leg_from, maximal_trail};

@@ -5,7 +5,7 @@ ghost use Rattle.join.specs.Laws.{town_of};
 ghost use Rattle.pairs.specs.Pairings.{depot_extra, walks_of, Paired, NoShorter};
 
 use crate::Pair;
-use crate::walk::walk_from;
+use crate::walk::maximal_trail;
 use join::{LeastDrives, first_odd};
 use std::alloc::{AllocError, Global};
 
@@ -13,7 +13,7 @@ use std::alloc::{AllocError, Global};
 pub fn drives_to_depot(least: &LeastDrives) -> [bool; 300]
     ensures { marked result ≡ depot_extra least.now }
 {
-    least.extra[least.town.town.depot]
+    least.extra[least.town.town.depot].drives
 }
 
 // The odd crossings in pairs, each with a way over streets of the depot's extra drives; no pairing is shorter altogether.
@@ -24,7 +24,7 @@ pub fn pair_up(least: &LeastDrives, heap: Global) -> Result<Vec<Pair>, AllocErro
     let mut left = drives_to_depot(least);
     let mut pairs = Vec::new(heap);
     while let Some(v) = first_odd(town, &left) {
-        let pair = walk_from(town, &mut left, v, heap)?;
+        let pair = maximal_trail(town, &mut left, v, heap)?;
         pairs.push(pair)?;
     }
     Ok(pairs)

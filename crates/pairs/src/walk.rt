@@ -1,11 +1,10 @@
-// Walks over streets of a set, each taken off as it is driven.
-ghost use Rattle.std.specs.Prelude.{◌≡◌, ◌<◌, true, IfOk, MatchOption};
+// Walks over streets that are left, each taken off as it is driven.
+ghost use Rattle.std.specs.Prelude.{◌≡◌, IfOk, MatchOption};
 ghost use Rattle.road.specs.Counts.{ends};
-ghost use Rattle.road.specs.Model.{model, marked};
-ghost use Rattle.join.specs.Odd.{odd_at};
-ghost use Rattle.pairs.specs.Walks.{walk_of, LeadsOver, LeadsOn, Stuck, Taken};
+ghost use Rattle.road.specs.Model.{model};
+ghost use Rattle.pairs.specs.Walks.{walk_of, LeadsOver, LeadsOn, Clear, Walked};
 
-use crate::Pair;
+use crate::{Multiset, Pair};
 use road::{Leg, Town};
 use std::alloc::{AllocError, Global};
 
@@ -23,38 +22,32 @@ pub fn leg_from(town: &Town, k: usize, at: usize) -> Option<Leg>
     }
 }
 
-// A leg from a crossing over a street of a set, if there is one.
-fn next_leg(town: &Town, set: &[bool; 300], at: usize) -> Option<Leg>
-    ensures { MatchOption result (Stuck (model town.now) (marked set.now) at town.now.count) (LeadsOn (model town.now) (marked set.now) at) }
+// A leg from a crossing over a street that is left, if there is one.
+fn next_leg<S: Multiset>(town: &Town, left: &S, at: usize) -> Option<Leg>
+    ensures { MatchOption result (Clear (model town.now) (S.multiplicity left.now) at town.now.count) (LeadsOn (model town.now) (S.multiplicity left.now) at) }
 {
-    for k in 0..town.count {
-        if set[k] {
-            if let Some(leg) = leg_from(town, k, at) {
-                return Some(leg);
-            }
-        }
-    }
-    None
+    (0..town.count)
+        .filter(|k| left.contains(*k))
+        .find_map(|k| leg_from(town, k, at))
 }
 
-// Walks from an odd crossing until no street of the set leads on, and takes off each street that is driven.
-pub(crate) fn walk_from(
+// Walks from a crossing until no street that is left leads on, and takes off each street that is driven: a trail that is maximal.
+pub fn maximal_trail<S: Multiset>(
     town: &Town,
-    set: &mut [bool; 300],
+    left: &mut S,
     start: usize,
     heap: Global,
 ) -> Result<Pair, AllocError>
-    requires below { start < town.now.crossings }
-    requires odd { odd_at (model town.now) (marked set.old) start ≡ true }
-    ensures { IfOk result (λ p. (p.one ≡ start) × Taken (model town.now) (marked set.old) (marked set.new) (walk_of p)) }
+    ensures { IfOk result (λ p. (p.one ≡ start) × Walked (model town.now) (S.multiplicity left.old) (S.multiplicity left.new) (walk_of p)) }
 {
     let mut legs = Vec::new(heap);
     let mut at = start;
+    // A labelled loop, left when the walk closes, as all walks over streets are written.
     'walk: loop {
-        let Some(leg) = next_leg(town, set, at) else {
+        let Some(leg) = next_leg(town, left, at) else {
             break 'walk;
         };
-        set[leg.by] = false;
+        left.remove(leg.by);
         legs.push(leg)?;
         at = town.end_of(leg);
     }

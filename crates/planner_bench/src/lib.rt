@@ -2,13 +2,13 @@
 #![tactic(auto)]
 
 use join::LeastDrives;
-use road::{Refusal, SoundTown, Town};
-use round::plan_round;
+use road::SoundTown;
+use round::{Plan, plan_round};
 use std::alloc::Global;
 
 // The depot's price in half metres, how many passes and stages it took, and how many stages show that it is least.
 #[repr(C)]
-#[derive(Clone, Copy)]
+#[derive(Clone, Copy, Default)]
 pub struct Effort {
     pub price: i64,
     pub passes: u64,
@@ -16,35 +16,21 @@ pub struct Effort {
     pub stages: u64,
 }
 
-fn no_effort() -> Effort {
-    Effort {
-        price: 0,
-        passes: 0,
-        turns: 0,
-        stages: 0,
-    }
-}
-
-fn effort_for(town: &SoundTown, heap: Global) -> Effort {
-    match LeastDrives::new(town, heap) {
-        Ok(least) => Effort {
-            price: least.price[town.town.depot],
+impl From<LeastDrives<'_>> for Effort {
+    fn from(least: LeastDrives) -> Effort {
+        Effort {
+            price: least.extra[least.town.town.depot].price,
             passes: least.passes,
             turns: least.turns,
             stages: least.stages.len() as u64,
-        },
-        Err(_) => no_effort(),
+        }
     }
-}
-
-fn take_sound(crossings: u64, numbers: &[u64], depot: u64) -> Result<SoundTown, Refusal> {
-    SoundTown::new(Town::take(crossings, numbers, depot)?)
 }
 
 // Whether the numbers are a town and all of its streets can be come to.
 #[unsafe(no_mangle)]
 pub extern "C" fn is_sound(crossings: u64, numbers: &[u64], depot: u64) -> bool {
-    take_sound(crossings, numbers, depot).is_ok()
+    SoundTown::take(crossings, numbers, depot).is_ok()
 }
 
 // What it takes for the town of these numbers; no pass if it is turned away.
@@ -55,19 +41,29 @@ pub extern "C" fn least_drives(
     depot: u64,
     heap: Global,
 ) -> Effort {
-    match take_sound(crossings, numbers, depot) {
-        Ok(sound) => effort_for(&sound, heap),
-        Err(_) => no_effort(),
-    }
+    SoundTown::take(crossings, numbers, depot)
+        .ok()
+        .and_then(|town| LeastDrives::new(&town, heap).map(Effort::from).ok())
+        .unwrap_or_default()
 }
 
 // How many legs and parts a plan has, and the length of its round in metres.
 #[repr(C)]
-#[derive(Clone, Copy)]
+#[derive(Clone, Copy, Default)]
 pub struct Planned {
     pub legs: u64,
     pub parts: u64,
     pub length: u64,
+}
+
+impl From<Plan> for Planned {
+    fn from(plan: Plan) -> Planned {
+        Planned {
+            legs: plan.legs as u64,
+            parts: plan.parts as u64,
+            length: plan.length,
+        }
+    }
 }
 
 // The plan for the town of these numbers, written to the rooms; no leg if there is none.
@@ -80,16 +76,7 @@ pub extern "C" fn plan_town(
     parts: &mut [u64],
     heap: Global,
 ) -> Planned {
-    match plan_round(crossings, numbers, depot, legs, parts, heap) {
-        Ok(plan) => Planned {
-            legs: plan.legs as u64,
-            parts: plan.parts as u64,
-            length: plan.length,
-        },
-        Err(_) => Planned {
-            legs: 0,
-            parts: 0,
-            length: 0,
-        },
-    }
+    plan_round(crossings, numbers, depot, legs, parts, heap)
+        .map(Planned::from)
+        .unwrap_or_default()
 }

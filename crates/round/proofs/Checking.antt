@@ -1,5 +1,5 @@
 -- The checker's word on what the planner writes. Assumes nothing.
-use Rattle.std.proofs.Common.{◌≡◌, ℕ, ◌+◌, ◌*◌, ◌/◌, ◌<◌, ◌≤◌, true, not, ltb, leb, List, [], ◌∷◌, map, length, get_or, take, drop, None, sym, refl, ap, ◌∙◌, ap₂, mul-div_cancel, arith}
+use Rattle.std.proofs.Common.{◌≡◌, ℕ, ◌+◌, ◌*◌, ◌/◌, ◌<◌, ◌≤◌, true, not, ltb, leb, List, [], ◌∷◌, map, length, get_or, take, drop, None, sym, refl, ap, ◌∙◌, ap₂, mul-div_cancel, arith, Ok, Err, Result}
 use Rattle.std.proofs.lemmas.List.{length-map, get_or-map, take_at}
 use Rattle.std.proofs.lemmas.Bool.{le-leb, lt-ltb}
 use Rattle.road.specs.declared.leg.Leg.{Leg}
@@ -15,8 +15,9 @@ use Rattle.road.proofs.Parity.{bit_most}
 use Rattle.join.proofs.Pairing.{drive_below}
 use Rattle.sheet.specs.Sheet.{Part, no_part}
 use Rattle.sheet.specs.Numbers.{sheet_in}
+use Rattle.road.specs.declared.refusal.Refusal.{Refusal}
 use Rattle.sheet.specs.declared.word.Word.{Word}
-use Rattle.sheet.specs.declared.word.Word.TheVariants.{NoRound, NoSheet, Shortest, Apart, Refused}
+use Rattle.sheet.specs.declared.word.Word.TheVariants.{NoRound, NoSheet, Shortest, Apart}
 use Rattle.sheet.specs.declared.word.SheetFault.TheVariants.{Part as AtPart, Street as AtStreet}
 use Rattle.sheet.specs.Words.{said, judged, unless_refused, check_refusal, parts_refusal}
 use Rattle.sheet.proofs.Judged.{word_shortest}
@@ -62,21 +63,21 @@ parts_let n ps marks few small = (parts_taken n xs).1 ((length ps, long), omega 
         let j : i < length ps = omega (arith, count) in
         omega (arith, weight_at (length ps) n xs i (i * (1 + n)) j refl, ap (λ qs. (get_or qs i no_part).weight) (parts_back n ps marks), small i j)
 
--- a word that says shortest is that word
-said_shortest : (w : Word) (n : ℕ) → said w ≡ (2, n ∷ []) → w ≡ Shortest n
-said_shortest (Shortest m) n e = ap (λ ns. Shortest (get_or ns 0 0)) (ap (λ x. x.1) e)
-said_shortest (NoRound (AtLeg i)) n e = absurd (omega (arith, ap (λ x. x.0) e))
-said_shortest (NoRound Home) n e = absurd (omega (arith, ap (λ x. x.0) e))
-said_shortest (NoRound (LeftOut k)) n e = absurd (omega (arith, ap (λ x. x.0) e))
-said_shortest (NoSheet (AtPart i)) n e = absurd (omega (arith, ap (λ x. x.0) e))
-said_shortest (NoSheet (AtStreet k)) n e = absurd (omega (arith, ap (λ x. x.0) e))
-said_shortest (Apart a b) n e = absurd (omega (arith, ap (λ x. x.0) e))
-said_shortest (Refused r) n e = absurd (omega (arith, ap (λ x. x.0) e))
+-- an answer that says shortest is that word
+said_shortest : (w : Result Word Refusal) (n : ℕ) → said w ≡ (2, n ∷ []) → w ≡ Ok (Shortest n)
+said_shortest (Ok (Shortest m)) n e = ap (λ ns. Ok (Shortest (get_or ns 0 0))) (ap (λ x. x.1) e)
+said_shortest (Ok (NoRound (AtLeg i))) n e = absurd (omega (arith, ap (λ x. x.0) e))
+said_shortest (Ok (NoRound Home)) n e = absurd (omega (arith, ap (λ x. x.0) e))
+said_shortest (Ok (NoRound (LeftOut k))) n e = absurd (omega (arith, ap (λ x. x.0) e))
+said_shortest (Ok (NoSheet (AtPart i))) n e = absurd (omega (arith, ap (λ x. x.0) e))
+said_shortest (Ok (NoSheet (AtStreet k))) n e = absurd (omega (arith, ap (λ x. x.0) e))
+said_shortest (Ok (Apart a b)) n e = absurd (omega (arith, ap (λ x. x.0) e))
+said_shortest (Err r) n e = absurd (omega (arith, ap (λ x. x.0) e))
 
 -- so it is the checker's word on the numbers of a round and a sheet that agree
 pub checked_word : (n : ℕ) (xs : List ℕ) (depot : ℕ) (ls : List Leg) (ps : List Part) (legs parts : List ℕ) → town_refusal n xs depot ≡ None → Agreed (town_in n xs) depot ls ps →
-    AllMarked n ps → legs ≡ map leg_number ls → parts ≡ sheet_numbers ps → (w : Word) →
-    said w ≡ unless_refused (check_refusal n xs depot legs parts) (judged (town_in n xs) depot (legs_in legs) (sheet_in n parts)) → w ≡ Shortest (far (town_in n xs) ls)
+    AllMarked n ps → legs ≡ map leg_number ls → parts ≡ sheet_numbers ps → (w : Result Word Refusal) →
+    said w ≡ unless_refused (check_refusal n xs depot legs parts) (judged (town_in n xs) depot (legs_in legs) (sheet_in n parts)) → w ≡ Ok (Shortest (far (town_in n xs) ls))
 checked_word n xs depot ls ps legs parts taken a marks el ep w e = said_shortest w (far t ls) (e ∙ ap₂ unless_refused none word)
   where
     t : Town
@@ -110,10 +111,17 @@ fronts n xs depot legs parts legs' parts' p d =
     )
 
 -- the word on them
-pub fronts_word : (n : ℕ) (xs : List ℕ) (depot : ℕ) (legs parts legs' parts' : List ℕ) (p : Plan) → Done (plan_refusal n xs depot) (town_in n xs) depot legs parts legs' parts' p → (w : Word) →
+pub fronts_word : (n : ℕ) (xs : List ℕ) (depot : ℕ) (legs parts legs' parts' : List ℕ) (p : Plan) → Done (plan_refusal n xs depot) (town_in n xs) depot legs parts legs' parts' p → (w : Result Word Refusal) →
     said w ≡ unless_refused (check_refusal n xs depot (take p.legs legs') (take (p.parts * (1 + n)) parts'))
-    (judged (town_in n xs) depot (legs_in (take p.legs legs')) (sheet_in n (take (p.parts * (1 + n)) parts'))) → w ≡ Shortest p.length
+    (judged (town_in n xs) depot (legs_in (take p.legs legs')) (sheet_in n (take (p.parts * (1 + n)) parts'))) → w ≡ Ok (Shortest p.length)
 fronts_word n xs depot legs parts legs' parts' p d w e =
     let f = fronts n xs depot legs parts legs' parts' p d in
     let taken = ((then_none (town_refusal n xs depot) (reach_refusal (town_in n xs) depot)).0 d.none).0 in
-    checked_word n xs depot d.ls d.ps (take p.legs legs') (take (p.parts * (1 + n)) parts') taken d.agreed d.writes.marks f.0 f.1 w e ∙ ap Shortest (sym d.writes.far_is)
+    checked_word n xs depot d.ls d.ps (take p.legs legs') (take (p.parts * (1 + n)) parts') taken d.agreed d.writes.marks f.0 f.1 w e ∙ ap (λ m. Ok (Shortest m)) (sym d.writes.far_is)
+
+-- so the checker turns nothing away, and its word is shortest
+pub ok_shortest : (r : Result Word Refusal) (w : Word) (n : ℕ) → r ≡ Ok (Shortest n) → r ≡ Ok w → w ≡ Shortest n
+ok_shortest r w n e f = cc
+
+pub not_refused : (r : Result Word Refusal) (q : Refusal) (n : ℕ) → r ≡ Ok (Shortest n) → r ≡ Err q → ⊥
+not_refused r q n e f = let z : ◌≡◌ {A = ℕ} 0 1 = cc in omega arith

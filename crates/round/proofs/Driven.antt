@@ -17,7 +17,8 @@ use Rattle.join.specs.Laws.{town_of, depot_of}
 use Rattle.join.proofs.Theorem.{even_counts}
 use Rattle.pairs.specs.Pairings.{depot_extra}
 use Rattle.pairs.proofs.DepotExtra.{at_home}
-use Rattle.round.specs.Tours.{count_in, Even, Clear, Each, ClosedTour, Tour}
+use Rattle.pairs.specs.Walks.{Each, Clear}
+use Rattle.round.specs.Tours.{count_in, Even, ClosedTour, Tour}
 use Rattle.round.proofs.Tours.{clear_degree}
 
 -- what holds of both ends of a leg holds of both ends of its street

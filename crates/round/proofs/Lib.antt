@@ -8,5 +8,4 @@ pub mod Planning
 pub mod Checking
 pub mod Tours
 pub mod Driven
-pub mod Counting
 pub mod Answering

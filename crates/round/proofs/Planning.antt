@@ -13,9 +13,8 @@ use Rattle.sheet.specs.Sheet.{Part, weights}
 use Rattle.sheet.specs.Shown.{Accepted}
 use Rattle.sheet.proofs.Right.{accepted}
 use Rattle.join.specs.declared.least.LeastDrives.{LeastDrives}
-use Rattle.join.specs.Amounts.{number}
 use Rattle.join.specs.Extra.{counts, extra_length}
-use Rattle.join.specs.Laws.{town_of, depot_of, sheet_from}
+use Rattle.join.specs.Laws.{town_of, depot_of, sheet_from, prices_of}
 use Rattle.join.proofs.Cost.{cost_double}
 use Rattle.join.proofs.Parts.{least_drives}
 use Rattle.pairs.specs.Pairings.{depot_extra}
@@ -36,7 +35,7 @@ extra_most t J = omega (arith, sum_le (size t) (λ k. when (J k) (street t k).lo
     at false n = omega arith
 
 -- half of the depot's price is the length of the extra drives
-pub depot_half : (s : LeastDrives) → number s.price (depot_of s) / 2 ≡ extra_length (town_of s) (depot_extra s)
+pub depot_half : (s : LeastDrives) → prices_of s (depot_of s) / 2 ≡ extra_length (town_of s) (depot_extra s)
 depot_half s = omega (arith, s.costs (depot_of s) (at_home s), cost_double (town_of s) (depot_extra s))
 
 -- how long the round is
@@ -79,10 +78,16 @@ module _ (t : Town) (ls : List Leg) (ps : List Part) (legs parts : List ℕ) whe
   pub room_enough : length ls ≤ length legs → sheet_room t ps ≤ length parts → room_refusal t ls ps legs parts ≡ None
   room_enough h i = rw (le-leb (length ls) (length legs) h, le-leb (sheet_room t ps) (length parts) i) refl
 
-  -- and so the plan that was written fits
-  pub written_fits : (legs' parts' : List ℕ) (p : Plan) → length ls ≤ length legs → sheet_room t ps ≤ length parts → Writes t ls ps legs parts legs' parts' p →
+  abbrev pub legs_room : Option (ℕ × ℕ)
+  legs_room = unless (leb (length ls) (length legs)) (6, length ls)
+
+  abbrev pub parts_room : Option (ℕ × ℕ)
+  parts_room = unless (leb (sheet_room t ps) (length parts)) (6, sheet_room t ps)
+
+  -- a plan that was written fits, where no refusal for want of room is due
+  pub written_fits : (legs' parts' : List ℕ) (p : Plan) → legs_room ≡ None → parts_room ≡ None → Writes t ls ps legs parts legs' parts' p →
       Fits (room_refusal t ls ps legs parts) t ls ps legs parts legs' parts' (Ok p)
-  written_fits legs' parts' p h i w = subst (λ o. Fits o t ls ps legs parts legs' parts' (Ok p)) (sym (room_enough h i)) w
+  written_fits legs' parts' p h i w = subst (λ o. Fits o t ls ps legs parts legs' parts' (Ok p)) (sym ((then_none legs_room parts_room).1 (h, i))) w
 
 -- a plan, whatever comes of it
 pub plans_of : (t : Town) (depot : ℕ) (ls : List Leg) (ps : List Part) (legs parts legs' parts' : List ℕ) → Agreed t depot ls ps → (r : Result Plan NoPlan) →

@@ -1,10 +1,11 @@
 -- Rounds and sheets written as numbers are read back from them. Assumes nothing.
-use Rattle.std.proofs.Common.{◌≡◌, ℕ, zero, suc, ◌+◌, ◌-◌, ◌*◌, ◌/◌, ◌%◌, ◌<◌, ◌≤◌, Bool, true, false, eqb, List, [], ◌∷◌, ◌++◌, map, length, get_or, take, drop, set, sym, refl, ap, ◌∙◌, subst, ap₂, mul-le-mul_right, suc-mul, add-mul, one-mul, mul-div_cancel, arith, length-append, below_more}
+use Rattle.std.proofs.Common.{◌≡◌, ℕ, zero, suc, ◌+◌, ◌-◌, ◌*◌, ◌/◌, ◌%◌, ◌<◌, ◌≤◌, Bool, true, false, not, cond, eqb, List, [], ◌∷◌, ◌++◌, map, length, get_or, take, drop, set, sym, refl, ap, ◌∙◌, subst, ap₂, mul-le-mul_right, suc-mul, add-mul, one-mul, mul-div_cancel, arith, length-append, below_more}
 use lib.ListN.{length-map}
 use lib.Seq.{append_snoc}
 use mir.Val.{bool_byte}
 use borrow.Rule.Slice.PartMut.{put_mid}
 use Rattle.std.proofs.lemmas.List.{take_at, drop_at, length-take-le, take_all, take_more, take_rest, set_at, drop_more, drop-drop, drop_all, map_more, length_push, append_assoc, append-nil, length-drop, take-append-drop, flat_map_more, length-take, get_or-take}
+use Rattle.std.specs.List.{filter}
 use Rattle.road.specs.declared.leg.Leg.{Leg}
 use Rattle.road.specs.Roads.{pick}
 use Rattle.road.specs.Counts.{bit}
@@ -76,6 +77,16 @@ sheet_marked n r (s ∷ ss) h =
     at false here rest zero l = here
     at false here rest (suc i) l = rest i (omega arith)
 
+-- there are as many parts as classes without the depot
+pub parts_counted : (n r : ℕ) (ss : List Stage) → length (filter (λ s. not (marked s.marks r)) ss) ≡ length (sheet_of n r ss)
+parts_counted n r [] = refl
+parts_counted n r (s ∷ ss) = at (marked s.marks r) (parts_counted n r ss)
+  where
+    at : (b : Bool) → length (filter (λ s. not (marked s.marks r)) ss) ≡ length (sheet_of n r ss) →
+        length (cond (not b) (s ∷ filter (λ s. not (marked s.marks r)) ss) (filter (λ s. not (marked s.marks r)) ss)) ≡ length (pick b (sheet_of n r ss) (part_of n s ∷ sheet_of n r ss))
+    at true e = e
+    at false e = omega arith
+
 -- one number more is written
 pub push_over : (ys xs : List ℕ) (y : ℕ) → length ys < length xs → set (over ys xs) (length ys) y ≡ over (ys ++ y ∷ []) xs
 push_over ys xs y h =
@@ -144,12 +155,6 @@ module _ (n r : ℕ) (ss : List Stage) (i : ℕ) (h : i < length ss) where
   pub sheet_more : marked (get_or ss i no_stage).marks r ≡ false → sheet_of n r (take (i + 1) ss) ≡ sheet_of n r (take i ss) ++ part_of n (get_or ss i no_stage) ∷ []
   sheet_more e = next false e
 
-  pub count_skip : marked (get_or ss i no_stage).marks r ≡ true → length (sheet_of n r (take (i + 1) ss)) ≡ length (sheet_of n r (take i ss))
-  count_skip e = ap length (sheet_skip e)
-
-  pub count_more : marked (get_or ss i no_stage).marks r ≡ false → length (sheet_of n r (take (i + 1) ss)) ≡ length (sheet_of n r (take i ss)) + 1
-  count_more e = ap length (sheet_more e) ∙ length_push (sheet_of n r (take i ss)) (part_of n (get_or ss i no_stage))
-
 -- the parts of the first i classes stand in the room us, which was xs
 pub record Filled (n r : ℕ) (ss : List Stage) (xs us : List ℕ) (i at : ℕ) : Type 0 where
   pub few : at ≡ length (sheet_of n r (take i ss)) * (1 + n)
@@ -157,10 +162,10 @@ pub record Filled (n r : ℕ) (ss : List Stage) (xs us : List ℕ) (i at : ℕ) 
   pub fits : at ≤ length xs
   pub written : us ≡ over (sheet_numbers (sheet_of n r (take i ss))) xs
 
-pub filled_same : (n r : ℕ) (ss : List Stage) (xs : List ℕ) (us vs : List ℕ) (i at bt : ℕ) → vs ≡ us → bt ≡ at → Filled n r ss xs us i at → Filled n r ss xs vs i bt
-filled_same n r ss xs us vs i at bt p q f = subst (λ (vs : List ℕ). Filled n r ss xs vs i bt) (sym p) (subst (λ (bt : ℕ). Filled n r ss xs us i bt) (sym q) f)
+pub filled_same : {n r : ℕ} {ss : List Stage} {xs us vs : List ℕ} {i at bt : ℕ} → vs ≡ us → bt ≡ at → Filled n r ss xs us i at → Filled n r ss xs vs i bt
+filled_same p q f = rw (p, q) f
 
-module _ (n r : ℕ) (ss : List Stage) (xs us : List ℕ) (i at : ℕ) (f : Filled n r ss xs us i at) where
+module _ {n r : ℕ} {ss : List Stage} {xs us : List ℕ} {i at : ℕ} (f : Filled n r ss xs us i at) where
   filled_marked : AllMarked n (sheet_of n r (take i ss))
   filled_marked = sheet_marked n r (take i ss) here
     where
@@ -181,7 +186,7 @@ module _ (n r : ℕ) (ss : List Stage) (xs us : List ℕ) (i at : ℕ) (f : Fill
 
   one_more : i < length ss → marked (get_or ss i no_stage).marks r ≡ false → at + (1 + n) ≡ length (sheet_of n r (take (i + 1) ss)) * (1 + n)
   one_more h e =
-      let more = ap (λ k. k * (1 + n)) (count_more n r ss i h e) in
+      let more = ap (λ k. k * (1 + n)) (ap length (sheet_more n r ss i h e) ∙ length_push (sheet_of n r (take i ss)) (part_of n (get_or ss i no_stage))) in
       omega (arith, f.few, add-mul (length (sheet_of n r (take i ss))) 1 (1 + n), one-mul (1 + n))
 
   -- any other has room
@@ -207,10 +212,3 @@ module _ (n r : ℕ) (ss : List Stage) (xs us : List ℕ) (i at : ℕ) (f : Fill
   filled_all h =
       let all = take_all i ss h in
       (f.written ∙ ap (λ (ts : List Stage). over (sheet_numbers (sheet_of n r ts)) xs) all, subst (λ (ts : List Stage). AllMarked n (sheet_of n r ts)) all filled_marked)
-
--- what is read at the front of a room is what was written there
-pub legs_read : (ls : List Leg) (xs : List ℕ) → legs_in (take (length ls) (over (map leg_number ls) xs)) ≡ ls
-legs_read ls xs = ap legs_in (take_at (map leg_number ls) (drop (length (map leg_number ls)) xs) (length ls) (length-map ls leg_number)) ∙ legs_back ls
-
-pub sheet_read : (n : ℕ) (ps : List Part) (xs : List ℕ) → AllMarked n ps → sheet_in n (take (length ps * (1 + n)) (over (sheet_numbers ps) xs)) ≡ ps
-sheet_read n ps xs h = ap (sheet_in n) (take_at (sheet_numbers ps) (drop (length (sheet_numbers ps)) xs) (length ps * (1 + n)) (length_sheet n ps h)) ∙ sheet_back n ps h

@@ -1,7 +1,7 @@
 -- Closed walks and tours: where a walk is stuck, and tours put into one another. Assumes nothing.
-use Rattle.std.proofs.Common.{◌≡◌, ℕ, ◌+◌, ◌-◌, ◌*◌, ◌<◌, ◌≤◌, eqb, List, [], ◌∷◌, ◌++◌, length, get_or, drop, set, sym, refl, ap, ◌∙◌, subst, ⊎_elim, add-mul, mul-zero, zero-mul, arith}
+use Rattle.std.proofs.Common.{◌≡◌, ℕ, ◌+◌, ◌*◌, ◌<◌, ◌≤◌, eqb, List, [], ◌∷◌, ◌++◌, length, get_or, drop, sym, refl, ap, ◌∙◌, subst, ⊎_elim, add-mul, mul-zero, zero-mul, arith}
 use mathlib.Core.Path.{fun_ext}
-use Rattle.std.proofs.lemmas.List.{length-set, get_or-set_same, get_or-set_other, drop_more, drop_all}
+use Rattle.std.proofs.lemmas.List.{drop_more, drop_all}
 use Rattle.std.proofs.lemmas.Bool.{cases_eq, cases_lt, eq-eqb, ne_eqb}
 use Rattle.road.specs.declared.leg.Leg.{Leg}
 use Rattle.road.specs.Roads.{Town, from, into, Drive, stay, go, times}
@@ -9,25 +9,13 @@ use Rattle.road.specs.Counts.{bit, sum, size, ends, degree}
 use Rattle.road.specs.Laws.{no_leg}
 use Rattle.road.proofs.Sums.{sum_ext, sum_add, sum_none, le_sum}
 use Rattle.road.proofs.Drives.{along_sum, drive_even, drive_degree, leg_ends, drive_append, drive_push, times_append, times_first}
-use Rattle.pairs.specs.Walks.{Forth}
-use Rattle.pairs.proofs.Walks.{Going, going_start, going_on, OneLess, fewer_left}
-use Rattle.round.specs.Tours.{count_in, Even, Clear, LeadsOn, Each, ClosedWalk, ClosedTour}
-
--- what holds of each leg of two lists holds of each leg of both
-each_append : (P : Leg → Type 0) (xs ys : List Leg) → Each P xs → Each P ys → Each P (xs ++ ys)
-each_append P [] ys u h = h
-each_append P (l ∷ xs) ys (g, gs) h = (g, each_append P xs ys gs h)
+use Rattle.pairs.specs.Walks.{Walk, Forth, Each, Clear, Walked}
+use Rattle.pairs.proofs.Walks.{each_append}
+use Rattle.round.specs.Tours.{Even, ClosedWalk, ClosedTour}
 
 each_map : (P Q : Leg → Type 0) → ((l : Leg) → P l → Q l) → (ls : List Leg) → Each P ls → Each Q ls
 each_map P Q f [] u = tt
 each_map P Q f (l ∷ ls) (g, gs) = (f l g, each_map P Q f ls gs)
-
--- a street taken off the counts
-count_less : (xs : List ℕ) (j x : ℕ) → j < length xs → 0 < count_in xs j → x ≡ count_in xs j - 1 → OneLess (count_in xs) (count_in (set xs j x)) j
-count_less xs j x h some e = record {
-  here = omega (arith, get_or-set_same xs j x 0 h);
-  other = λ k ne. sym (get_or-set_other xs j k x 0 (λ q. ne (sym q)));
-}
 
 -- what was driven and what is left, in the degrees
 degree_split : (t : Town) (c d : ℕ → ℕ) (ls : List Leg) → ((k : ℕ) → times k ls + d k ≡ c k) → (x : ℕ) → degree t c x ≡ degree t (λ k. times k ls) x + degree t d x
@@ -45,59 +33,31 @@ clear_degree t d x clear = sum_none (size t) (λ k. d k * ends t k x)
     (λ k h. ⊎_elim (λ p. ap (λ n. d k * n) (clear k h p) ∙ mul-zero (d k)) (λ p. let z : d k ≡ 0 = omega arith in ap (λ n. n * ends t k x) z ∙ zero-mul (ends t k x)) (cases_lt 0 (d k)))
 
 -- a walk over even degrees is stuck only where it began
-stuck_home : (t : Town) (c d : ℕ → ℕ) (v w : ℕ) (ls : List Leg) → Even t c → Going t c d v w ls → Clear t d w (size t) → w ≡ v
-stuck_home t c d v w ls even g clear = ⊎_elim (λ e. e) (λ ne. absurd (away ne)) (cases_eq w v)
+stuck_home : (t : Town) (c d : ℕ → ℕ) (q : Walk) → Even t c → Walked t c d q → q.two ≡ q.one
+stuck_home t c d q even g = ⊎_elim (λ e. e) (λ ne. absurd (away ne)) (cases_eq q.two q.one)
   where
-    away : (w ≡ v → ⊥) → ⊥
+    away : (q.two ≡ q.one → ⊥) → ⊥
     away ne =
         omega (
           arith,
-          even w,
-          degree_split t c d ls g.taken w,
-          clear_degree t d w clear,
-          along_sum t (λ k. ends t k w) g.drive,
-          drive_even t (λ k. ends t k w) (λ y. bit (eqb y w)) (λ l. omega (arith, leg_ends t l w)) g.drive,
-          ap bit (ne_eqb v w (λ e. ne (sym e))),
-          ap bit (eq-eqb w w refl),
+          even q.two,
+          degree_split t c d q.legs g.taken q.two,
+          clear_degree t d q.two g.clear,
+          along_sum t (λ k. ends t k q.two) g.drive,
+          drive_even t (λ k. ends t k q.two) (λ y. bit (eqb y q.two)) (λ l. omega (arith, leg_ends t l q.two)) g.drive,
+          ap bit (ne_eqb q.one q.two (λ e. ne (sym e))),
+          ap bit (eq-eqb q.two q.two refl),
         )
 
--- a walk that is under way, over counts in a list
-pub record Walking (t : Town) (c : ℕ → ℕ) (xs : List ℕ) (v w : ℕ) (ls : List Leg) : Type 0 where
-  pub places : length xs ≡ 300
-  pub going : Going t c (count_in xs) v w ls
-  pub forth : Each (Forth t) ls
-
-pub walking_start : (t : Town) (xs : List ℕ) (v : ℕ) (ls : List Leg) → length xs ≡ 300 → ls ≡ [] → Walking t (count_in xs) xs v v ls
-walking_start t xs v ls places e = record { places = places; going = going_start t (count_in xs) v ls e; forth = rw e tt }
-
-module _ (t : Town) (few : size t ≤ 300) (c : ℕ → ℕ) (xs : List ℕ) (v w : ℕ) (ls : List Leg) (s : Walking t c xs v w ls) where
-  -- one leg more
-  module _ (l : Leg) (on : LeadsOn t (count_in xs) w l) where
-    abbrev ys : List ℕ
-    ys = set xs l.by (count_in xs l.by - 1)
-
-    less : OneLess (count_in xs) (count_in ys) l.by
-    less = count_less xs l.by (count_in xs l.by - 1) (omega (arith, on.below, s.places)) on.left refl
-
-    pub walking_on : (w' : ℕ) (ls' : List Leg) → w' ≡ into t l → ls' ≡ ls ++ l ∷ [] → Walking t c ys v w' ls'
-    walking_on w' ls' e f = record {
-      places = length-set xs l.by (count_in xs l.by - 1) ∙ s.places;
-      going = going_on t c (count_in xs) (count_in ys) v w ls l s.going on.below on.begins less w' ls' e f;
-      forth = rw f (each_append (Forth t) ls (l ∷ []) s.forth (on.forth, tt));
+-- so it is closed
+pub walk_closed : (t : Town) (c d : ℕ → ℕ) (v : ℕ) (q : Walk) → Even t c → (q.one ≡ v) × Walked t c d q → ClosedWalk t c d v q.legs
+walk_closed t c d v q even (e, g) =
+    let home = stuck_home t c d q even g ∙ e in record {
+      drive = subst (λ x. Drive t v q.legs x) home (subst (λ x. Drive t x q.legs q.two) e g.drive);
+      taken = g.taken;
+      forth = g.forth;
+      clear = subst (λ x. Clear t d x (size t)) home g.clear;
     }
-
-    pub walking_fewer : sum 300 (count_in ys) < sum 300 (count_in xs)
-    walking_fewer = fewer_left 300 (count_in xs) (count_in ys) l.by (omega (arith, on.below)) less
-
-  -- no leg more
-  pub walking_stuck : Even t c → Clear t (count_in xs) w (size t) → ClosedWalk t c (count_in xs) v ls
-  walking_stuck even clear =
-      let home = stuck_home t c (count_in xs) v w ls even s.going clear in record {
-        drive = subst (λ x. Drive t v ls x) home s.going.drive;
-        taken = s.going.taken;
-        forth = s.forth;
-        clear = subst (λ x. Clear t (count_in xs) x (size t)) home clear;
-      }
 
 -- less left stays clear
 clear_less : (t : Town) (d d' : ℕ → ℕ) (x n : ℕ) → ((k : ℕ) → d' k ≤ d k) → Clear t d x n → Clear t d' x n
@@ -194,17 +154,17 @@ module _ (t : Town) (c d : ℕ → ℕ) (v : ℕ) (ls : List Leg) (l : Leg) (ws 
 abbrev pub with_legs : List Leg → (ℕ → ℕ) → ℕ → ℕ
 with_legs ws d k = times k ws + d k
 
--- a tour along the legs ws of a closed walk
-module _ (t : Town) (c d₀ : ℕ → ℕ) (v : ℕ) (ws ws' : List Leg) (same : ws ≡ ws') (w : ClosedWalk t c d₀ v ws') where
+-- a tour along the legs ws of a walk over even degrees
+module _ {t : Town} {c d₀ : ℕ → ℕ} {v : ℕ} {ws : List Leg} {q : Walk} (same : ws ≡ q.legs) (even : Even t c) (w : (q.one ≡ v) × Walked t c d₀ q) where
   along_walk : ClosedWalk t c d₀ v ws
-  along_walk = subst (λ (xs : List Leg). ClosedWalk t c d₀ v xs) (sym same) w
+  along_walk = subst (λ (xs : List Leg). ClosedWalk t c d₀ v xs) (sym same) (walk_closed t c d₀ v q even w)
 
   walk_counts : with_legs ws d₀ ≡ c
   walk_counts = fun_ext along_walk.taken
 
-  pub touring_start : (ls : List Leg) → Even t c → ls ≡ [] → Touring t (with_legs ws d₀) d₀ v ls ws
+  pub touring_start : (ls : List Leg) → ls ≡ [] → Touring t (with_legs ws d₀) d₀ v ls ws
   unfolding times
-  touring_start ls even e = rw e (record {
+  touring_start ls e = rw e (record {
     at = v;
     drive = stay v;
     rest = along_walk.drive;
@@ -216,7 +176,7 @@ module _ (t : Town) (c d₀ : ℕ → ℕ) (v : ℕ) (ws ws' : List Leg) (same :
     clears = tt;
   })
 
-  module _ (d : ℕ → ℕ) (ls : List Leg) (i : ℕ) (s : Touring t (with_legs ws d₀) d v ls (drop i ws)) where
+  module _ {d : ℕ → ℕ} {ls : List Leg} (i : ℕ) (s : Touring t (with_legs ws d₀) d v ls (drop i ws)) where
     -- up to the last leg
     pub touring_end : length ws ≤ i → ClosedTour t c d v ls
     touring_end h = subst (λ (f : ℕ → ℕ). ClosedTour t f d v ls) walk_counts (whole_tour t (with_legs ws d₀) d v ls (drop i ws) s (drop_all i ws h))

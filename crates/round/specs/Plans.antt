@@ -11,8 +11,7 @@ use Rattle.round.specs.declared.checked.Checked.{Checked}
 use Rattle.round.specs.declared.plan.Plan.{Plan}
 use Rattle.round.specs.declared.no_plan.NoPlan.{NoPlan}
 use Rattle.round.specs.declared.no_plan.NoPlan.TheVariants.{Refused, Memory}
-use Rattle.pairs.specs.Walks.{Forth}
-use Rattle.round.specs.Tours.{Each}
+use Rattle.pairs.specs.Walks.{Forth, Each}
 use Rattle.round.specs.Rooms.{leg_number, sheet_numbers, AllMarked, over}
 
 -- a round and a sheet that agree: so the round is a shortest one, at most two legs a street, and at most 400 parts, none of which weighs more than 10,000,000;

@@ -1,12 +1,11 @@
 -- Rounds and sheets written as numbers. Assumes nothing: these are definitions.
-use Rattle.std.specs.Prelude.{◌≡◌, ℕ, ◌+◌, ◌*◌, ◌<◌, List, ◌∷◌, ◌++◌, map, length, take, drop, pos, slice_index_or}
+use Rattle.std.specs.Prelude.{◌≡◌, ℕ, ◌+◌, ◌*◌, ◌<◌, List, ◌∷◌, ◌++◌, map, length, take, drop, slice_index_or}
 use Rattle.std.specs.List.{flat_map}
 use Rattle.road.specs.declared.leg.Leg.{Leg}
 use Rattle.road.specs.Counts.{bit}
 use Rattle.sheet.specs.Sheet.{Part, no_part}
 use Rattle.join.specs.declared.turn.Stage.{Stage}
 use Rattle.join.specs.Amounts.{amount}
-use Rattle.join.specs.Certified.{no_stage, charge_at}
 
 -- a leg is twice the street's number, and one more if it is driven back
 abbrev pub leg_number : Leg → ℕ
@@ -27,10 +26,6 @@ part_of n s = record { marks = take n s.marks; weight = amount s.charge }
 -- each part has n marks
 abbrev pub AllMarked : ℕ → List Part → Type 0
 AllMarked n ps = (i : ℕ) → i < length ps → length (slice_index_or ps i no_part).marks ≡ n
-
--- no charge is negative
-abbrev pub AllWhole : List Stage → Type 0
-AllWhole ss = (i : ℕ) → i < length ss → (slice_index_or ss i no_stage).charge ≡ pos (charge_at ss i)
 
 -- a room once numbers are written over its front
 abbrev pub over : List ℕ → List ℕ → List ℕ

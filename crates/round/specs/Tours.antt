@@ -1,10 +1,10 @@
 -- Closed tours over streets that have to be driven so and so often, and what is left of them. Assumes nothing: these are definitions.
-use Rattle.std.specs.Prelude.{◌≡◌, ℕ, ◌+◌, ◌%◌, ◌<◌, List, [], ◌∷◌, slice_index}
+use Rattle.std.specs.Prelude.{◌≡◌, ℕ, ◌+◌, ◌%◌, ◌<◌, List, slice_index}
 use Rattle.road.specs.declared.leg.Leg.{Leg}
 use Rattle.road.specs.Roads.{Town, from, Drive, times, Round}
-use Rattle.road.specs.Counts.{size, ends, degree, Set}
+use Rattle.road.specs.Counts.{size, degree, Set}
 use Rattle.join.specs.Extra.{counts}
-use Rattle.pairs.specs.Walks.{Forth}
+use Rattle.pairs.specs.Walks.{Forth, Each, Clear}
 
 -- how often a street has still to be driven, by a list of numbers
 abbrev pub count_in : List ℕ → ℕ → ℕ
@@ -13,22 +13,6 @@ count_in xs k = slice_index xs k
 -- every crossing has an even degree
 abbrev pub Even : Town → (ℕ → ℕ) → Type 0
 Even t c = (x : ℕ) → degree t c x % 2 ≡ 0
-
--- no street, of the first n, that is left has an end at v
-abbrev pub Clear : Town → (ℕ → ℕ) → ℕ → ℕ → Type 0
-Clear t c v n = (k : ℕ) → k < n → 0 < c k → ends t k v ≡ 0
-
--- a leg leads on from v over a street that is left
-pub record LeadsOn (t : Town) (c : ℕ → ℕ) (v : ℕ) (l : Leg) : Type 0 where
-  pub below : l.by < size t
-  pub left : 0 < c l.by
-  pub begins : from t l ≡ v
-  pub forth : Forth t l
-
--- something holds of each leg
-abbrev pub Each : (Leg → Type 0) → List Leg → Type 0
-Each P [] = Unit {0}
-Each P (l ∷ ls) = P l × Each P ls
 
 -- a closed walk from v: of the streets to be driven, c, it drove some, and d is left, nothing of it at v
 pub record ClosedWalk (t : Town) (c d : ℕ → ℕ) (v : ℕ) (ls : List Leg) : Type 0 where

@@ -8,10 +8,11 @@ ghost use Rattle.round.specs.Plans.{Promises};
 
 use crate::planner::plan_round;
 use crate::{Checked, NoPlan, Plan};
+use road::Refusal;
 use sheet::{Word, check_round};
 use std::alloc::Global;
 
-// The checker's word on the fronts of the rooms.
+// The checker's word on the fronts of the rooms. The numbers of a town, the legs and the parts stay apart, as the public functions take them.
 fn check_fronts(
     crossings: u64,
     streets: &[u64],
@@ -19,7 +20,7 @@ fn check_fronts(
     legs: &[u64],
     parts: &[u64],
     plan: Plan,
-) -> Word
+) -> Result<Word, Refusal>
     requires few { (crossings ≤ 100) × (plan.parts ≤ 400) }
     requires long { (plan.legs ≤ length legs.now) × (plan.parts * (1 + crossings) ≤ length parts.now) }
     ensures { said result ≡ unless_refused (check_refusal crossings streets.now depot (take plan.legs legs.now) (take (plan.parts * (1 + crossings)) parts.now))
@@ -48,6 +49,6 @@ pub fn plan_and_check(
     ensures { Promises (plan_refusal crossings streets.now depot) (town_in crossings streets.now) depot legs.old parts.old legs.new parts.new result }
 {
     let plan = plan_round(crossings, streets, depot, legs, parts, heap)?;
-    let word = check_fronts(crossings, streets, depot, legs, parts, plan);
+    let word = check_fronts(crossings, streets, depot, legs, parts, plan)?;
     Ok(Checked { plan, word })
 }

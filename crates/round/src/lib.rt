@@ -5,13 +5,11 @@ mod check;
 mod checked;
 mod counts;
 mod laws;
-mod next;
 mod no_plan;
 mod plan;
 mod planner;
 mod rooms;
 mod tour;
-mod walk;
 mod write;
 
 pub use check::plan_and_check;

@@ -13,6 +13,7 @@ pub enum NoPlan {
     Memory(AllocError),
 }
 
+// By hand, as the next, since contracts read what they give.
 impl From<Refusal> for NoPlan {
     ghost from_gives = { λ e r. r ≡ Refused e };
 

@@ -6,13 +6,12 @@ ghost use Rattle.pairs.specs.Pairings.{depot_extra};
 ghost use Rattle.round.specs.Tours.{count_in, Even, ClosedTour, Tour};
 
 use crate::counts::drive_counts;
-use crate::walk::close_walk;
 use join::LeastDrives;
-use pairs::drives_to_depot;
+use pairs::{drives_to_depot, maximal_trail};
 use road::{Leg, Town};
 use std::alloc::{AllocError, Global};
 
-// A closed walk, and before each of its legs a closed tour over what is left there.
+// A walk that is closed, since the degrees are even, and before each of its legs a closed tour over what is left there.
 fn closed_tour(
     town: &Town,
     left: &mut [usize; 300],
@@ -22,9 +21,9 @@ fn closed_tour(
     requires { Even (model town.now) (count_in left.old) }
     ensures { IfOk result (λ ls. ClosedTour (model town.now) (count_in left.old) (count_in left.new) start ls.items) }
 {
-    let walk = close_walk(town, left, start, heap)?;
+    let walk = maximal_trail(town, left, start, heap)?;
     let mut legs = Vec::new(heap);
-    for leg in walk.iter() {
+    for leg in &walk.legs {
         let at = town.begin_of(*leg);
         let inner = closed_tour(town, left, at, heap)?;
         legs.extend_from_slice(&inner)?;

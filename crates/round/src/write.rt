@@ -1,5 +1,7 @@
 // A plan written to the rooms, where they are long enough.
-ghost use Rattle.std.specs.Prelude.{◌≡◌, ℕ, ◌+◌, ◌/◌, pos};
+ghost use Rattle.std.specs.Prelude.{◌≡◌, ℕ, ◌+◌, ◌/◌, length, nat_le, pos};
+ghost use Rattle.road.specs.First.{unless};
+ghost use Rattle.road.specs.Refusals.{Answers};
 ghost use Rattle.road.specs.Roads.{all_streets};
 ghost use Rattle.join.specs.Extra.{extra_length};
 ghost use Rattle.join.specs.Laws.{town_of, depot_of, sheet_from};
@@ -7,7 +9,7 @@ ghost use Rattle.pairs.specs.Pairings.{depot_extra};
 ghost use Rattle.round.specs.Tours.{Tour};
 ghost use Rattle.round.specs.Plans.{room_refusal, Fits};
 
-use crate::rooms::{count_parts, write_legs, write_parts};
+use crate::rooms::{count_parts, write_front, write_parts};
 use crate::{NoPlan, Plan};
 use join::LeastDrives;
 use road::{Leg, Refusal};
@@ -16,7 +18,7 @@ use road::{Leg, Refusal};
 fn metres(price: i64) -> u64
     ensures { (n : ℕ) → price ≡ pos n → result ≡ n / 2 }
 {
-    if price > 0 { (price / 2) as u64 } else { 0 }
+    price.unsigned_abs() / 2
 }
 
 // The length of a shortest round: all streets, and the extra drives to the depot.
@@ -24,7 +26,17 @@ fn round_length(least: &LeastDrives) -> u64
     ensures { result ≡ all_streets (town_of least.now).streets + extra_length (town_of least.now) (depot_extra least.now) }
 {
     let town = &least.town.town;
-    town.all_streets() + metres(least.price[town.depot])
+    town.all_streets() + metres(least.extra[town.depot].price)
+}
+
+// Refuses a room that is too short.
+fn check_room(need: usize, room: &[u64]) -> Result<(), Refusal>
+    ensures { Answers (unless (nat_le need (length room.now)) (6, need)) (λ _. Unit {0}) result }
+{
+    if need > room.len() {
+        return Err(Refusal::Room(need as u64));
+    }
+    Ok(())
 }
 
 // Writes the legs of a round and the parts of the sheet, unless a room is too short.
@@ -41,14 +53,9 @@ pub(crate) fn write_plan(
     let town = &least.town.town;
     let stages = least.stages.as_slice();
     let count = count_parts(stages, town.depot);
-    let need = count * (1 + town.crossings);
-    if round.len() > legs.len() {
-        return Err(NoPlan::Refused(Refusal::Room(round.len() as u64)));
-    }
-    if need > parts.len() {
-        return Err(NoPlan::Refused(Refusal::Room(need as u64)));
-    }
-    write_legs(legs, round);
+    check_room(round.len(), legs)?;
+    check_room(count * (1 + town.crossings), parts)?;
+    write_front(legs, round);
     write_parts(parts, stages, town.crossings, town.depot);
     Ok(Plan {
         legs: round.len(),

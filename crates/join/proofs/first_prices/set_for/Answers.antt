@@ -1,5 +1,5 @@
 -- The steps of the proof of `set_for` that are not found by search.
-use Rattle.join.specs.Prices.{start_in}
+use Rattle.join.specs.Problems.{start_in}
 use Rattle.join.proofs.first_prices.set_for.Goals as goal
 
 pub returns-then-u-problem : goal.returns-then-u-problem

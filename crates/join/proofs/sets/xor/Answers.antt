@@ -1,11 +1,17 @@
--- The steps of the proof of `xor` that are not found by search.
-use Rattle.std.proofs.Common.{arith}
+-- The step of the proof of `xor` that is not found by search.
+use Rattle.std.proofs.Common.{false, arith, rules}
 use Rattle.road.specs.Model.{marked}
+use Rattle.road.proofs.Parity.{unequal}
 use Rattle.join.specs.Joins.{◌⊞◌}
+use Rattle.road.proofs.FromFn.{holds_each}
 use Rattle.join.proofs.StreetSets.{marked_ext, none_past}
 use Rattle.join.proofs.sets.xor.Goals as goal
 
 pub returns : goal.returns
 returns c =
-    marked_ext c.loop-k.out (marked c.args.a.now ⊞ marked c.args.b.now) 300 (omega arith) (λ k h. c.loop-k.invariant.1 k (omega arith))
-    (λ k h. none_past c.args.a.now c.args.b.now k (omega arith) (omega arith))
+    let a = c.args.a.now in
+    let b = c.args.b.now in
+    let i = c.from_fn.ensures.items in
+    marked_ext c.from_fn.result (marked a ⊞ marked b) 300 (omega (arith, i.long))
+    (λ k h. holds_each (marked a ⊞ marked b) i (λ k y q l e. search (rules, unequal)) k false h)
+    (λ k h. none_past a b k (omega arith) (omega arith))

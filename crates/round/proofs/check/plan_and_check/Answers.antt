@@ -4,11 +4,11 @@ use Rattle.road.specs.Numbers.{town_in}
 use Rattle.road.specs.Refusals.{plan_refusal}
 use Rattle.road.proofs.Listed.{let_through}
 use Rattle.round.proofs.Planning.{done}
-use Rattle.round.proofs.Checking.{fronts_word}
+use Rattle.round.proofs.Checking.{fronts_word, ok_shortest, not_refused}
 use Rattle.round.proofs.check.plan_and_check.Goals as goal
 
-pub check_fronts-word-requires : goal.check_fronts-word-requires
-check_fronts-word-requires c =
+pub check_fronts-requires : goal.check_fronts-requires
+check_fronts-requires c =
     let n = c.args.crossings in
     let xs = c.args.streets.now in
     let p = c.in_ok-plan.plan in
@@ -19,6 +19,15 @@ check_fronts-word-requires c =
       long = (omega (arith, d.writes.legs_count, d.legs_fit, c.plan_round.auto.legs), omega (arith, ap (λ m. m * (1 + n)) d.writes.parts_count, d.parts_fit, c.plan_round.auto.parts));
     }
 
+pub returns-in_err-word : goal.returns-in_err-word
+returns-in_err-word c =
+    let n = c.args.crossings in
+    let xs = c.args.streets.now in
+    let p = c.in_ok-plan.plan in
+    let d = done (plan_refusal n xs c.args.depot) (town_in n xs) c.args.depot c.args.legs.now c.args.parts.now c.plan_round.new.legs c.plan_round.new.parts p c.in_ok-plan.ensures in
+    let says = fronts_word n xs c.args.depot c.args.legs.now c.args.parts.now c.plan_round.new.legs c.plan_round.new.parts p d c.check_fronts.result c.check_fronts.ensures in
+    absurd (not_refused c.check_fronts.result _ p.length says c.in_err-word.was)
+
 pub returns : goal.returns
 returns c =
     let n = c.args.crossings in
@@ -26,4 +35,5 @@ returns c =
     let p = c.in_ok-plan.plan in
     let a = c.in_ok-plan.ensures in
     let d = done (plan_refusal n xs c.args.depot) (town_in n xs) c.args.depot c.args.legs.now c.args.parts.now c.plan_round.new.legs c.plan_round.new.parts p a in
-    (a, fronts_word n xs c.args.depot c.args.legs.now c.args.parts.now c.plan_round.new.legs c.plan_round.new.parts p d c.check_fronts-word.result c.check_fronts-word.ensures)
+    let says = fronts_word n xs c.args.depot c.args.legs.now c.args.parts.now c.plan_round.new.legs c.plan_round.new.parts p d c.check_fronts.result c.check_fronts.ensures in
+    (a, ok_shortest c.check_fronts.result c.in_ok-word.word p.length says c.in_ok-word.was)

@@ -1,20 +1,20 @@
 -- The steps of the proof of `count_parts` that are not found by search.
-use Rattle.std.proofs.Common.{ℕ, not, List, length, ap, ◌∙◌, arith}
-use Rattle.std.proofs.lemmas.List.{take_all}
+use Rattle.std.proofs.Common.{◌≡◌, Bool, true, false, not, ◌∙◌, rules}
+use borrow.Author.Tests.{tests}
+use Rattle.std.proofs.lemmas.Iterator.{YieldsList-from_slice}
+use Rattle.std.proofs.lemmas.Iterator.Consumers.{YieldsList-at, YieldsList-from_filter, count_from_yields_List}
 use Rattle.join.specs.declared.turn.Stage.{Stage}
-use Rattle.join.specs.Certified.{sheet_of}
-use Rattle.round.proofs.Rooming.{count_skip, count_more}
+use Rattle.road.specs.Model.{marked}
+use Rattle.round.proofs.Rooming.{parts_counted}
 use Rattle.round.proofs.rooms.count_parts.Goals as goal
-use Rattle.round.proofs.rooms.count_parts.Goals.{then-is_part, else-is_part}
 
-pub loop-stage-preserved : goal.loop-stage-preserved
-loop-stage-preserved c =
-    let skip = λ (n : ℕ). count_skip n c.args.depot c.args.stages.now c.loop-stage.stage-index c.loop-stage-test.true in
-    let more = λ (n : ℕ). count_more n c.args.depot c.args.stages.now c.loop-stage.stage-index c.loop-stage-test.true in
-    elim c.if-is_part.branch [
-      | then-is_part w ↦ (omega (arith, w.count-is), λ n. omega (arith, w.count-is, c.loop-stage.invariant.1 n, more n (c.is_part.ensures.is ∙ ap not w.if-is_part.true)))
-      | else-is_part w ↦ (omega (arith, w.count-is), λ n. omega (arith, w.count-is, c.loop-stage.invariant.1 n, skip n (c.is_part.ensures.is ∙ ap not w.if-is_part.false)))
-    ]
+turned : (b r : Bool) → b ≡ not r → r ≡ not b
+turned b true e = cc
+turned b false e = cc
 
 pub returns : goal.returns
-returns c n = c.loop-stage.invariant.1 n ∙ ap (λ (ss : List Stage). length (sheet_of n c.args.depot ss)) (take_all c.loop-stage.stage-index c.args.stages.now (omega arith))
+returns c n =
+    count_from_yields_List c.filter.result c.count.result c.count.ensures.ran
+    (YieldsList-from_filter _ (λ (s : Stage). not (marked s.marks c.args.depot)) (YieldsList-at c.filter.ensures.source (YieldsList-from_slice c.args.stages.now c.iter.ensures.rest)) c.filter.ensures.closure
+    (λ x r q k. search (rules, tests, turned)))
+    ∙ parts_counted n c.args.depot c.args.stages.now

@@ -23,10 +23,10 @@ returns c =
     let ex = c.inner_end-x.ensures.is in
     let ey = c.outer_end-y.ensures.is in
     record {
-      grown = grown_more t A s c.requires.grown k h own cuts x y ex ey c.outer_end-y.ensures.below c.flip.result (c.flip.ensures ∙ ap (λ J. J ⊞ single k) c.path_to.ensures);
+      grown = grown_more t A s c.requires.grown k h own cuts x y ex ey c.outer_end-y.ensures.below c.flip.result (c.flip.ensures ∙ ap (λ J. J ⊞ single k) c.path_to.ensures) _ refl refl refl;
       from = refl;
       tried = record {
-        less = λ _. unmarked_set s.marks y c.requires.grown.places c.outer_end-y.ensures.below (out_y t A s c.requires.grown k h own cuts x y ex ey);
+        less = λ _. unmarked_set s.marks y s.places c.outer_end-y.ensures.below (out_y t A s c.requires.grown k h own cuts x y ex ey);
         same = λ e. absurd (both_ways true e refl);
       };
     }

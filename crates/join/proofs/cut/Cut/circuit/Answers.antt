@@ -1,5 +1,5 @@
 -- The steps of the proof of `circuit` that are not found by search.
-use Rattle.std.proofs.Common.{◌≡◌, ℕ, true, length, vec_items, sym, ap, ◌∙◌, ⊎_elim, below_more}
+use Rattle.std.proofs.Common.{◌≡◌, ℕ, true, sym, ◌∙◌, ⊎_elim, below_more}
 use Rattle.std.proofs.lemmas.Bool.{both_ways}
 use Rattle.road.specs.Counts.{Set, cut}
 use Rattle.road.specs.Model.{marked}
@@ -18,11 +18,8 @@ loop-k-preserved c =
     let P : ℕ → Type 0 = λ k. J k ≡ true → cut t Z k ≡ true → (Y : Set) × Lone t Z J (marked c.args.base.now) k Y in
     elim c.if-drives-k.branch [
       | then-drives-k+then-cut+in_default w ↦
-          let r = w.in_default.ensures in
-          (ap (λ d. length (vec_items d.path)) w.component-is ∙ r.rows, below_more P k i.1 (λ _ _. r.is))
-      | else-drives-k w ↦ (
-        ap (λ d. length (vec_items d.path)) w.component-is ∙ i.0,
-        below_more P k i.1 (λ own u. ⊎_elim
-            (λ q. absurd (both_ways (cut t Z k) (sym c.has-cut.ensures ∙ q.1) u)) (λ no. absurd (both_ways (J k) no own)) w.else-drives-k.either),
-      )
+          below_more P k i (λ _ _. w.in_default.ensures)
+      | else-drives-k w ↦
+          below_more P k i (λ own u. ⊎_elim
+          (λ q. absurd (both_ways (cut t Z k) (sym c.has-cut.ensures ∙ q.1) u)) (λ no. absurd (both_ways (J k) no own)) w.else-drives-k.either)
     ]

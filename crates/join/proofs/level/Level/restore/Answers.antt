@@ -4,7 +4,7 @@ use Rattle.std.proofs.lemmas.Int.{to_z-of_z}
 use Rattle.road.specs.Counts.{cut}
 use Rattle.road.specs.Model.{marked}
 use Rattle.join.specs.Amounts.{amount}
-use Rattle.join.specs.Prices.{town_in, reached_in}
+use Rattle.join.specs.Problems.{town_in, reached_in}
 use Rattle.join.specs.Turns.{lengths_at, potential_at}
 use Rattle.join.proofs.Restoring.{outside_parts}
 use Rattle.join.proofs.Shifting.{moves_up, shifted_up}
@@ -16,9 +16,8 @@ shift-requires c =
     let z = c.args.stage.now.charge in
     let Z = marked c.args.stage.now.marks in
     let f : SFits w64 z = search rules in
-    let e : to_z w64 (of_z w64 z) ≡ pos (amount z) = to_z-of_z w64 z f ∙ c.requires.whole in
+    let e : to_z w64 (of_z w64 z) ≡ pos (amount z) = to_z-of_z w64 z f ∙ c.args.stage.now.whole in
     record {
-      filled = c.requires.filled;
       streets = λ k h u. moves_up 4000000000 (lengths_at c.args.self.now k) (amount z) _ e (c.requires.streets k h u);
       crossings = λ u o.
           let i = outside_parts (reached_in p u) (Z u) o in
@@ -31,10 +30,9 @@ returns c =
     let z = c.args.stage.now.charge in
     let Z = marked c.args.stage.now.marks in
     let f : SFits w64 z = search rules in
-    let e : to_z w64 (of_z w64 z) ≡ pos (amount z) = to_z-of_z w64 z f ∙ c.requires.whole in
+    let e : to_z w64 (of_z w64 z) ≡ pos (amount z) = to_z-of_z w64 z f ∙ c.args.stage.now.whole in
     let r = c.shift.ensures in
     record {
-      filled = r.filled;
       streets = r.streets ∙ shifted_up (cut (town_in p) Z) _ (lengths_at c.args.self.now) (amount z) e;
       crossings = r.crossings ∙ shifted_up (λ u. reached_in p u && not (Z u)) _ (potential_at c.args.self.now) (amount z) e;
     }

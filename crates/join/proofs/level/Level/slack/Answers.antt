@@ -11,7 +11,7 @@ pub returns : goal.returns
 returns c =
     let t = ground c.args.cut.now in
     let Z = side_of c.args.cut.now in
-    let f = c.requires.filled.0 in
+    let f = c.args.self.now in
     let g = potential_at c.args.self.now in
     let l = lengths_at c.args.self.now in
     let b = c.args.b in

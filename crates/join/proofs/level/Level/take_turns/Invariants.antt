@@ -4,7 +4,7 @@ use Rattle.join.specs.Passes.{Run}
 use Rattle.join.proofs.level.Level.take_turns.Given as goal
 
 abbrev pub invariant-loop-found : goal.invariant-loop-found
-invariant-loop-found l = Run l.problem l.prices l.classes (vec_items l.stages) l.self
+invariant-loop-found l = Run l.prices l.classes (vec_items l.stages) l.self
 
 abbrev pub decreases-loop-found : goal.decreases-loop-found
 decreases-loop-found l = 300 - length (vec_items l.stages)

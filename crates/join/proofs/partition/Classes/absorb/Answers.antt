@@ -1,5 +1,5 @@
 -- The steps of the proof of `absorb` that are not found by search.
-use Rattle.std.proofs.Common.{ap, ◌∙◌}
+use Rattle.std.proofs.Common.{refl, ap, ◌∙◌}
 use Rattle.road.specs.Model.{marked}
 use Rattle.join.specs.Joins.{◌⊞◌}
 use Rattle.join.proofs.Uniting.{absorbed_more, absorbed_past}
@@ -12,7 +12,7 @@ loop-v-preserved c =
     elim c.if-self-v.branch [
       | then-self-v w ↦
           rw w.self-is (absorbed_more c.args.from c.args.to link c.args.self.now c.loop-v.self c.loop-v.v c.loop-v.invariant w.xor.result
-          c.loop-v-test.true w.if-self-v.true (w.xor.ensures ∙ ap (λ J. link ⊞ J) w.way_to.ensures))
+          c.loop-v-test.true w.if-self-v.true (w.xor.ensures ∙ ap (λ J. link ⊞ J) w.way_to.ensures) _ refl refl)
       | else-self-v w ↦
           rw w.self-is (absorbed_past c.args.from c.args.to link c.args.self.now c.loop-v.self c.loop-v.v c.loop-v.invariant w.if-self-v.false)
     ]

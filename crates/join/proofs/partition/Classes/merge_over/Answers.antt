@@ -1,5 +1,5 @@
 -- The steps of the proof of `merge_over` that are not found by search.
-use Rattle.std.proofs.Common.{◌≡◌, sym, refl, ap, ◌∙◌, arith}
+use Rattle.std.proofs.Common.{◌≡◌, ◌<◌, sym, refl, ap, ◌∙◌, arith}
 use Rattle.std.proofs.lemmas.Bool.{eqb-true}
 use Rattle.road.specs.Model.{marked}
 use Rattle.road.proofs.Models.{size_model}
@@ -16,14 +16,16 @@ returns c =
     let w = c.args.streets.now in
     let q = c.args.self.now in
     let k = c.args.k in
-    let x = c.end-x.result in
-    let y = c.end-y.result in
+    let x = c.street-street.result.one in
+    let y = c.street-street.result.two in
+    let ex = ap (λ s. s.one) c.street-street.ensures.is in
+    let ey = ap (λ s. s.two) c.street-street.ensures.is in
     let link = marked c.xor-link.result in
     let d = c.absorb.new.self in
-    let hx = c.end-x.ensures.below in
-    let hy = c.end-y.ensures.below in
+    let hx : x < 100 = omega (arith, c.street-street.ensures.within.0, w.town.now.most) in
+    let hy : y < 100 = omega (arith, c.street-street.ensures.within.1, w.town.now.most) in
     let z : lengths_of w k ≡ 0 = eqb-true (lengths_of w k) 0 (sym c.is_free.ensures ∙ c.if-not-is_free.false) in
-    let r = link_is (town_of w) (lengths_of w) q k x y (marked c.flip-there.result) link c.requires.classed (omega (arith, size_model w.town.now, c.requires.below)) z c.end-x.ensures.is c.end-y.ensures.is hx hy
+    let r = link_is (town_of w) (lengths_of w) q k x y (marked c.flip-there.result) link c.requires.classed (omega (arith, size_model w.town.now, c.requires.below)) z ex ey hx hy
     (c.flip-there.ensures ∙ ap (λ J. J ⊞ single k) c.way_to.ensures) (c.xor-link.ensures ∙ ap (λ J. marked c.flip-there.result ⊞ J) c.way_to-2.ensures) in
     let apart : label_in q x ≡ label_in q y → ⊥ = λ e. c.if-from-to.false (sym e) in
     record {
@@ -31,6 +33,6 @@ returns c =
       kept = absorbed_kept (label_in q y) (label_in q x) link q d c.absorb.ensures;
       progress = progress_merge (town_of w) (ends_below w.town.now) q d x y link hx hy apart c.absorb.ensures (lengths_of w);
       merged = λ _.
-          ap (label_in d) (sym c.end-x.ensures.is) ∙ absorbed_both (label_in q y) (label_in q x) link q d c.absorb.ensures x y hx hy refl refl
-          ∙ ap (label_in d) c.end-y.ensures.is;
+          ap (label_in d) (sym ex) ∙ absorbed_both (label_in q y) (label_in q x) link q d c.absorb.ensures x y hx hy refl refl
+          ∙ ap (label_in d) ey;
     }

@@ -1,6 +1,15 @@
--- The steps of the proof of `first` that are not found by search.
-use Rattle.join.proofs.Starting.{begun_none, bounded_none}
+-- The step of the proof of `first` that is not found by search.
+use Rattle.std.proofs.Common.{vec_items}
+use Rattle.join.proofs.Starting.{reached_below, begun_high}
 use Rattle.join.proofs.prices.Prices.first.Goals as goal
 
-pub loop-u-init : goal.loop-u-init
-loop-u-init c = (begun_none c.args.problem.now _ c.new.ensures.items c.no_prices.ensures, bounded_none _ c.no_prices.ensures)
+pub invariant_of-result : goal.invariant_of-result
+invariant_of-result c =
+    let p = c.args.problem.now in
+    let b = c.in_ok-extra.ensures in
+    record {
+      rows = b.long;
+      high = begun_high p (vec_items c.in_ok-extra.extra) b;
+      joins = λ u r. b.joins u (reached_below p u r) r;
+      costs = λ u r. b.costs u (reached_below p u r);
+    }

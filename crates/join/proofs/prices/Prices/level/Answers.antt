@@ -1,15 +1,27 @@
 -- The steps of the proof of `level` that are not found by search.
-use Rattle.std.proofs.Common.{refl}
-use Rattle.join.proofs.Beginning.{begin_pass, begin_after}
+use Rattle.std.proofs.Common.{◌≡◌, length, refl, rules}
+use Rattle.join.proofs.Beginning.{begin_pass, begin_after, all_whole, all_high, all_are}
 use Rattle.join.proofs.prices.Prices.level.Goals as goal
+
+pub invariant_of-result : goal.invariant_of-result
+invariant_of-result c =
+    let q = c.args.self.now in
+    let p = q.problem in
+    let zs = c.all.result in
+    let long : length zs ≡ 100 = search rules in
+    record {
+      streets = p.streets;
+      places = long;
+      whole = p.whole;
+      most = p.most;
+      whole_potential = all_whole q zs long c.all.ensures;
+      high = all_high q zs long c.all.ensures;
+    }
 
 pub returns : goal.returns
 returns c =
-    let p = c.args.problem.now in
     let q = c.args.self.now in
-    let d = c.requires.priced in
-    record {
-      pass = begin_pass p c.requires.even q d c.requires.near _
-          (record { streets = c.requires.even.streets; places = d.places; whole = p.whole; most = p.most; whole_potential = d.whole; high = c.requires.bounded.most }) refl refl;
-      after = begin_after p q _ refl refl;
-    }
+    let zs = c.all.result in
+    let long : length zs ≡ 100 = search rules in
+    let are = all_are q zs long c.all.ensures in
+    record { pass = begin_pass q c.requires _ refl are; after = begin_after q _ refl are }

@@ -1,0 +1,15 @@
+// The classes that a pass charged, one after the other: a packing of cuts into the costs of the streets.
+ghost use Rattle.std.specs.Prelude.{length};
+ghost use Rattle.join.specs.Passes.{AllStaged};
+
+use crate::partition::Classes;
+use crate::prices::Prices;
+use crate::turn::Stage;
+
+#[derive(Clone, Copy)]
+pub(crate) struct CutPacking<'a, 't, 'c> {
+    pub prices: &'a Prices<'t, 'c>,
+    pub classes: &'a Classes,
+    pub stages: &'a [Stage],
+    ghost staged: { AllStaged prices.now classes.now stages.now (length stages.now) },
+}
