@@ -1,67 +1,33 @@
 // Towns by rule: grids, ladders and complete graphs.
-ghost use Rattle.std.specs.Prelude.{◌<◌, ◌≤◌};
-
 use crate::common::{check_from, check_town};
-use std::alloc::Global;
 use std::test::Fail;
-
-// Rows of crossings, each joined to its neighbours; every street is as long as the others.
-fn grid(heap: Global, wide: u64, high: u64, long: u64) -> Result<Vec<u64>, Fail>
-    requires some { 0 < wide }
-    requires narrow { wide ≤ 100 }
-    requires low { high ≤ 100 }
-{
-    let mut numbers = Vec::new(heap);
-    for v in 0..wide * high {
-        if v % wide + 1 < wide {
-            numbers.extend_from_slice(&[v, v + 1, long])?;
-        }
-        if v + wide < wide * high {
-            numbers.extend_from_slice(&[v, v + wide, long])?;
-        }
-    }
-    Ok(numbers)
-}
-
-// A street of length 1 between any two crossings.
-fn complete(heap: Global, crossings: u64) -> Result<Vec<u64>, Fail>
-    requires some { 0 < crossings }
-    requires few { crossings ≤ 100 }
-{
-    let mut numbers = Vec::new(heap);
-    for pair in 0..crossings * crossings {
-        if pair % crossings < pair / crossings {
-            numbers.extend_from_slice(&[pair % crossings, pair / crossings, 1])?;
-        }
-    }
-    Ok(numbers)
-}
+use test_towns::{complete, grid};
 
 #[test]
 fn roads(rt: HostRuntime) -> Result<(), Fail> {
     let heap = rt.alloc();
-    check_from(&rt, heap, 100, &grid(heap, 1, 100, 100_000)?, 50, 9_900_000)
+    check_from(&rt, 100, &grid(heap, 1, 100, 100_000)?, 50, 9_900_000)
 }
 
 #[test]
 fn ladders(rt: HostRuntime) -> Result<(), Fail> {
     let heap = rt.alloc();
-    check_town(&rt, heap, 10, &grid(heap, 2, 5, 3)?, 9)?;
-    check_from(&rt, heap, 100, &grid(heap, 2, 50, 1)?, 31, 48)
+    check_town(&rt, 10, &grid(heap, 2, 5, 3)?, 9)?;
+    check_from(&rt, 100, &grid(heap, 2, 50, 1)?, 31, 48)
 }
 
 #[test]
 fn grids(rt: HostRuntime) -> Result<(), Fail> {
     let heap = rt.alloc();
-    check_town(&rt, heap, 9, &grid(heap, 3, 3, 1)?, 4)?;
-    check_from(&rt, heap, 100, &grid(heap, 10, 10, 1)?, 99, 16)
+    check_town(&rt, 9, &grid(heap, 3, 3, 1)?, 4)?;
+    check_from(&rt, 100, &grid(heap, 10, 10, 1)?, 99, 16)
 }
 
 #[test]
 fn complete_graphs(rt: HostRuntime) -> Result<(), Fail> {
     let heap = rt.alloc();
-    check_town(&rt, heap, 5, &complete(heap, 5)?, 0)?;
-    check_town(&rt, heap, 6, &complete(heap, 6)?, 3)?;
-    check_from(&rt, heap, 24, &complete(heap, 24)?, 11, 12)?;
-    check_from(&rt, heap, 25, &complete(heap, 25)?, 24, 0)
+    check_town(&rt, 5, &complete(heap, 5)?, 0)?;
+    check_town(&rt, 6, &complete(heap, 6)?, 3)?;
+    check_from(&rt, 24, &complete(heap, 24)?, 11, 12)?;
+    check_from(&rt, 25, &complete(heap, 25)?, 24, 0)
 }

@@ -1,39 +1,24 @@
-// Towns taken from numbers, and their least drives checked.
+// Least drives of towns checked.
 use crate::shown::check_shown;
 use join::LeastDrives;
-use road::{SoundTown, Town};
-use std::alloc::Global;
+use road::SoundTown;
+use std::alloc::AllocGlobal;
 use std::process::Abort;
 use std::test::Fail;
 
-fn sound(town: Town) -> Result<SoundTown, Fail> {
-    match SoundTown::new(town) {
-        Ok(town) => Ok(town),
-        Err(_) => Err(Fail::new("a street cannot be come to")),
-    }
-}
-
-pub(crate) fn town_of(crossings: u64, numbers: &[u64], depot: u64) -> Result<SoundTown, Fail> {
-    match Town::take(crossings, numbers, depot) {
-        Ok(town) => sound(town),
-        Err(_) => Err(Fail::new("the town was turned away")),
-    }
-}
-
 // Checks the drives from one depot, and the length of those that lead back to it.
 pub(crate) fn check_from(
-    rt: &impl Abort,
-    heap: Global,
+    rt: &(impl Abort + AllocGlobal),
     crossings: u64,
-    numbers: &[u64],
+    streets: &[[u64; 3]],
     depot: u64,
     extra: u64,
 ) -> Result<(), Fail> {
-    let town = town_of(crossings, numbers, depot)?;
-    let drives = LeastDrives::new(&town, heap)?;
+    let town = SoundTown::take(crossings, streets.as_flattened(), depot)?;
+    let drives = LeastDrives::new(&town, rt.alloc())?;
     check_shown(rt, &drives);
     assert_eq!(rt;
-        drives.price[town.town.depot].unsigned_abs(),
+        drives.extra[town.town.depot].price.unsigned_abs(),
         extra.saturating_mul(2)
     );
     Ok(())
@@ -41,14 +26,10 @@ pub(crate) fn check_from(
 
 // The same from every crossing.
 pub(crate) fn check_town(
-    rt: &impl Abort,
-    heap: Global,
+    rt: &(impl Abort + AllocGlobal),
     crossings: u64,
-    numbers: &[u64],
+    streets: &[[u64; 3]],
     extra: u64,
 ) -> Result<(), Fail> {
-    for depot in 0..crossings {
-        check_from(rt, heap, crossings, numbers, depot, extra)?;
-    }
-    Ok(())
+    (0..crossings).try_for_each(|depot| check_from(rt, crossings, streets, depot, extra))
 }

@@ -1,6 +1,6 @@
+// Tests of least extra drives: towns with known lengths, and random towns beside the least of all sets.
 #![tactic(auto)]
 
-// Tests of least extra drives: towns with known lengths, and random towns beside the least of all sets.
 #[cfg(test)]
 mod built;
 #[cfg(test)]

@@ -1,101 +1,72 @@
 // Whether extra drives lead where they should, and whether the classes show that they are least, counted street by street.
-ghost use Rattle.std.specs.Prelude.{◌<◌};
-
 use join::{LeastDrives, Stage};
-use road::Town;
+use road::{Street, Town};
 use std::process::Abort;
 
 // What the streets of a set cost, in half metres.
+// The like of pairs_tests is apart, in metres: the contract of a shared one, and its proof, would be longer than both.
 fn cost(town: &Town, set: &[bool; 300]) -> u64 {
-    let mut sum = 0u64;
-    for k in 0..town.count {
-        if set[k] {
-            sum = sum.saturating_add(2 * town.street(k).long);
-        }
-    }
-    sum
+    let streets = town.streets().iter().zip(set);
+    let lengths = streets
+        .filter(|(_, marked)| **marked)
+        .map(|(street, _)| street.long);
+    lengths.fold(0, u64::saturating_add).saturating_mul(2)
 }
 
 // Whether a crossing has an odd degree, where all streets are driven once and those of a set once more.
+// That of pairs_tests is apart, without a set: the contract of a shared one, and its proof, would be longer than both.
 fn is_odd(town: &Town, set: &[bool; 300], v: usize) -> bool {
-    let mut odd = false;
-    for k in 0..town.count {
-        let street = town.street(k);
-        if (street.one == v) != (street.two == v) {
-            odd = odd == set[k];
-        }
-    }
-    odd
+    let streets = town.streets().iter().zip(set);
+    let once = streets.filter(|(_, again)| !**again);
+    let ends = once.filter(|(street, _)| (street.one == v) != (street.two == v));
+    ends.count() % 2 == 1
 }
 
 // With the extra drives to u all degrees are even, except at the depot and at u, where these differ.
 fn leads_to(town: &Town, set: &[bool; 300], u: usize) -> bool {
-    for v in 0..town.crossings {
-        if is_odd(town, set, v) != ((v == town.depot) != (v == u)) {
-            return false;
-        }
-    }
-    true
+    (0..town.crossings).all(|v| is_odd(town, set, v) == ((v == town.depot) != (v == u)))
 }
 
 // Whether a crossing can be come to, where all streets can be come to.
 fn is_reached(town: &Town, u: usize) -> bool {
-    for k in 0..town.count {
-        let street = town.street(k);
-        if street.one == u || street.two == u {
-            return true;
-        }
-    }
-    u == town.depot
+    let mut streets = town.streets().iter();
+    u == town.depot || streets.any(|street| street.one == u || street.two == u)
 }
 
 // Whether a street leads out of the class of a stage.
-fn leads_out(town: &Town, stage: &Stage, k: usize) -> bool {
-    let street = town.street(k);
-    stage.marks[street.one] != stage.marks[street.two]
+fn leads_out(stage: &Stage, street: &Street) -> bool {
+    stage.marks.get(street.one) != stage.marks.get(street.two)
 }
 
 // Whether the class has a charge within the limits, and an odd number of streets lead out of it just if the depot is outside.
 fn is_charged(town: &Town, stage: &Stage) -> bool {
-    let mut odd = false;
-    for k in 0..town.count {
-        odd = odd != leads_out(town, stage, k);
-    }
-    odd != stage.marks[town.depot] && stage.charge >= 1 && stage.charge <= 10_000_000
+    let streets = town.streets().iter();
+    let out = streets.filter(|street| leads_out(stage, street)).count();
+    (out % 2 == 1) != stage.marks[town.depot] && (1..=10_000_000).contains(&stage.charge)
 }
 
 // What the classes charge a street.
-fn street_charge(town: &Town, stages: &[Stage], k: usize) -> u64 {
-    let mut sum = 0u64;
-    for stage in stages {
-        if leads_out(town, stage, k) {
-            sum = sum.saturating_add(stage.charge.unsigned_abs());
-        }
-    }
-    sum
+fn street_charge(stages: &[Stage], street: &Street) -> u64 {
+    let charging = stages.iter().filter(|stage| leads_out(stage, street));
+    let charges = charging.map(|stage| stage.charge.unsigned_abs());
+    charges.fold(0, u64::saturating_add)
 }
 
 // What the classes without a crossing are charged.
-fn crossing_charge(stages: &[Stage], u: usize) -> u64
-    requires { u < 100 }
-{
-    let mut sum = 0u64;
-    for stage in stages {
-        if !stage.marks[u] {
-            sum = sum.saturating_add(stage.charge.unsigned_abs());
-        }
-    }
-    sum
+fn crossing_charge(stages: &[Stage], u: usize) -> u64 {
+    let without = stages
+        .iter()
+        .filter(|stage| stage.marks.get(u) == Some(&false));
+    let charges = without.map(|stage| stage.charge.unsigned_abs());
+    charges.fold(0, u64::saturating_add)
 }
 
 // The classes are few, are rightly charged, and charge no street more than twice its length.
 fn check_stages(rt: &impl Abort, town: &Town, stages: &[Stage]) {
     assert!(rt; stages.len() <= 400);
-    for stage in stages {
-        assert!(rt; is_charged(town, stage));
-    }
-    for k in 0..town.count {
-        assert!(rt; street_charge(town, stages, k) <= 2 * town.street(k).long);
+    assert!(rt; stages.iter().all(|stage| is_charged(town, stage)));
+    for street in town.streets() {
+        assert!(rt; street_charge(stages, street) <= street.long.saturating_mul(2));
     }
 }
 
@@ -104,14 +75,13 @@ pub(crate) fn check_shown(rt: &impl Abort, drives: &LeastDrives) {
     let town = &drives.town.town;
     let stages = drives.stages.as_slice();
     check_stages(rt, town, stages);
-    for u in 0..100 {
-        assert_eq!(rt; drives.reached[u], is_reached(town, u));
-        if drives.reached[u] {
-            let price = drives.price[u];
-            assert!(rt; price >= 0);
-            assert!(rt; leads_to(town, &drives.extra[u], u));
-            assert_eq!(rt; price.unsigned_abs(), cost(town, &drives.extra[u]));
-            assert_eq!(rt; price.unsigned_abs(), crossing_charge(stages, u));
+    for (u, (reached, set)) in drives.reached.iter().zip(&drives.extra).enumerate() {
+        assert_eq!(rt; *reached, is_reached(town, u));
+        if *reached {
+            assert!(rt; set.price >= 0);
+            assert!(rt; leads_to(town, &set.drives, u));
+            assert_eq!(rt; set.price.unsigned_abs(), cost(town, &set.drives));
+            assert_eq!(rt; set.price.unsigned_abs(), crossing_charge(stages, u));
         }
     }
 }

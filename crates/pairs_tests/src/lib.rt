@@ -1,6 +1,6 @@
+// Tests of the pairs of odd crossings: towns by hand and by rule, with the length of their extra drives.
 #![tactic(auto)]
 
-// Tests of the pairs of odd crossings: towns by hand and by rule, with the length of their extra drives.
 #[cfg(test)]
 mod built;
 #[cfg(test)]

@@ -1,27 +1,20 @@
+// Tests of road by table: refusals with their places, and drives with their faults.
 #![tactic(auto)]
 
-// Tests of road by table: refusals with their places, and drives with their faults.
 #[cfg(test)]
 mod tests {
     use road::{Fault, Refusal, SoundTown, Town};
     use std::test::Fail;
-
-    const ROAD: [u64; 3] = [0, 1, 7];
-
-    const STAR: [u64; 9] = [0, 1, 2, 0, 2, 3, 0, 3, 4];
-
-    const PARALLEL: [u64; 9] = [0, 1, 2, 0, 1, 3, 0, 1, 5];
-
-    const LOOP: [u64; 6] = [0, 1, 4, 1, 1, 3];
-
-    const APART: [u64; 12] = [0, 1, 1, 2, 2, 0, 2, 3, 9, 0, 0, 4];
+    use test_towns::{APART, LOOP, PARALLEL, ROAD, STAR};
 
     // The refusal of the planner's list, or none.
     fn refused(crossings: u64, numbers: &[u64], depot: u64) -> Option<Refusal> {
-        match Town::take(crossings, numbers, depot) {
-            Ok(town) => SoundTown::new(town).err(),
-            Err(refusal) => Some(refusal),
-        }
+        SoundTown::take(crossings, numbers, depot).err()
+    }
+
+    // The same where the numbers are streets.
+    fn refused_town(crossings: u64, streets: &[[u64; 3]], depot: u64) -> Option<Refusal> {
+        refused(crossings, streets.as_flattened(), depot)
     }
 
     // The length of the legs if they are a round, or their fault.
@@ -31,19 +24,17 @@ mod tests {
     }
 
     // The same of legs from crossing 0, in a town that is taken.
-    fn round(crossings: u64, numbers: &[u64], legs: &[u64]) -> Option<Result<u128, Fault>> {
-        match Town::take(crossings, numbers, 0) {
-            Ok(town) => Some(measured(&town, legs)),
-            Err(_) => None,
-        }
+    fn round(crossings: u64, streets: &[[u64; 3]], legs: &[u64]) -> Option<Result<u128, Fault>> {
+        let town = Town::take(crossings, streets.as_flattened(), 0).ok();
+        town.map(|town| measured(&town, legs))
     }
 
     #[test]
     fn limits(rt: HostRuntime) {
         assert_eq!(rt; refused(0, &[], 0), Some(Refusal::Crossings(0)));
         assert_eq!(rt; refused(1, &[], 0), None);
-        assert_eq!(rt; refused(100, &ROAD, 99), Some(Refusal::Unreached(0)));
-        assert_eq!(rt; refused(101, &ROAD, 0), Some(Refusal::Crossings(101)));
+        assert_eq!(rt; refused_town(100, &ROAD, 99), Some(Refusal::Unreached(0)));
+        assert_eq!(rt; refused_town(101, &ROAD, 0), Some(Refusal::Crossings(101)));
         assert_eq!(rt; refused(1, &[0; 900], 0), None);
         assert_eq!(rt; refused(1, &[0; 903], 0), Some(Refusal::Numbers(903)));
         assert_eq!(rt; refused(2, &[0, 1, 7, 1], 0), Some(Refusal::Numbers(4)));
@@ -57,18 +48,18 @@ mod tests {
             Some(Refusal::OutOfRange(1))
         );
         assert_eq!(rt; refused(2, &[2, 0, 5], 0), Some(Refusal::OutOfRange(0)));
-        assert_eq!(rt; refused(2, &ROAD, 2), Some(Refusal::Depot(2)));
+        assert_eq!(rt; refused_town(2, &ROAD, 2), Some(Refusal::Depot(2)));
     }
 
     #[test]
     fn what_can_be_come_to(rt: HostRuntime) {
-        assert_eq!(rt; refused(9, &ROAD, 0), None);
-        assert_eq!(rt; refused(9, &ROAD, 5), Some(Refusal::Unreached(0)));
+        assert_eq!(rt; refused_town(9, &ROAD, 0), None);
+        assert_eq!(rt; refused_town(9, &ROAD, 5), Some(Refusal::Unreached(0)));
         assert_eq!(rt; refused(9, &[], 5), None);
-        assert_eq!(rt; refused(2, &LOOP, 0), None);
-        assert_eq!(rt; refused(2, &PARALLEL, 1), None);
-        assert_eq!(rt; refused(4, &APART, 0), Some(Refusal::Unreached(1)));
-        assert_eq!(rt; refused(4, &APART, 2), Some(Refusal::Unreached(0)));
+        assert_eq!(rt; refused_town(2, &LOOP, 0), None);
+        assert_eq!(rt; refused_town(2, &PARALLEL, 1), None);
+        assert_eq!(rt; refused_town(4, &APART, 0), Some(Refusal::Unreached(1)));
+        assert_eq!(rt; refused_town(4, &APART, 2), Some(Refusal::Unreached(0)));
         assert_eq!(rt; refused(3, &[2, 1, 1, 1, 0, 1], 0), None);
     }
 
@@ -77,7 +68,7 @@ mod tests {
         assert_eq!(rt; refused(0, &[0, 1], 5), Some(Refusal::Crossings(0)));
         assert_eq!(rt; refused(2, &[0, 9], 5), Some(Refusal::Numbers(2)));
         assert_eq!(rt; refused(2, &[0, 9, 1], 5), Some(Refusal::OutOfRange(0)));
-        assert_eq!(rt; refused(4, &APART, 4), Some(Refusal::Depot(4)));
+        assert_eq!(rt; refused_town(4, &APART, 4), Some(Refusal::Depot(4)));
     }
 
     #[test]
@@ -104,15 +95,11 @@ mod tests {
 
     #[test]
     fn legs_of_no_street(rt: HostRuntime) -> Result<(), Fail> {
-        match Town::take(4, &STAR, 0) {
-            Ok(town) => {
-                assert_eq!(rt; town.check_legs(&[0, 5, 1]), Ok(()));
-                assert_eq!(rt; town.check_legs(&[0, 6, 7]), Err(Refusal::NoStreet(1)));
-                assert_eq!(rt; town.length(&[0, 6, 5]), 6);
-                assert_eq!(rt; town.all_streets(), 9);
-                Ok(())
-            }
-            Err(_) => Err(Fail::new("the town is refused")),
-        }
+        let town = Town::take(4, STAR.as_flattened(), 0)?;
+        assert_eq!(rt; town.check_legs(&[0, 5, 1]), Ok(()));
+        assert_eq!(rt; town.check_legs(&[0, 6, 7]), Err(Refusal::NoStreet(1)));
+        assert_eq!(rt; town.length(&[0, 6, 5]), 6);
+        assert_eq!(rt; town.all_streets(), 9);
+        Ok(())
     }
 }

@@ -1,6 +1,6 @@
+// Tests of the planner: towns by hand and by rule with the checker's word on what was written, refusals, and rooms that are too short.
 #![tactic(auto)]
 
-// Tests of the planner: towns by hand and by rule with the checker's word on what was written, refusals, and rooms that are too short.
 #[cfg(test)]
 mod built;
 #[cfg(test)]

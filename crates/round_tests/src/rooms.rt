@@ -14,20 +14,12 @@ pub(crate) struct Rooms {
 
 // Whether all numbers from a place on are as they were.
 fn is_filled(room: &[u64], from: usize) -> bool {
-    for (i, number) in room.iter().enumerate() {
-        if i >= from && *number != FILL {
-            return false;
-        }
-    }
-    true
+    room.iter().skip(from).all(|number| *number == FILL)
 }
 
 fn front(room: &[u64], count: usize) -> Result<&[u64], Fail> {
-    if count <= room.len() {
-        Ok(&room[..count])
-    } else {
-        Err(Fail::new("more was written than there is room for"))
-    }
+    room.get(..count)
+        .ok_or_else(|| Fail::new("more was written than there is room for"))
 }
 
 impl Rooms {

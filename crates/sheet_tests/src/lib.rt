@@ -1,37 +1,36 @@
+// Tests of the checker by table: every word and every refusal with its place, and what only looks right.
 #![tactic(auto)]
 
-// Tests of the checker by table: every word and every refusal with its place, and what only looks right.
 #[cfg(test)]
 mod tests {
     use road::{Fault, Refusal};
     use sheet::{SheetFault, Word, check_round};
-
-    const STAR: [u64; 9] = [0, 1, 2, 0, 2, 3, 0, 3, 4];
+    use test_towns::{FOUR_COMPLETE, LOOP, PARALLEL, QUARTER, STAR, TWO_ROWS};
 
     const STAR_LEGS: [u64; 6] = [0, 1, 2, 3, 4, 5];
 
     const STAR_PARTS: [u64; 15] = [4, 0, 1, 0, 0, 6, 0, 0, 1, 0, 8, 0, 0, 0, 1];
 
     // The word on legs and parts in the star.
-    fn star(legs: &[u64], parts: &[u64]) -> Word {
-        check_round(4, &STAR, 0, legs, parts)
+    fn star(legs: &[u64], parts: &[u64]) -> Result<Word, Refusal> {
+        check_round(4, STAR.as_flattened(), 0, legs, parts)
     }
 
-    fn no_round(fault: Fault) -> Word {
-        Word::NoRound(fault)
+    fn no_round(fault: Fault) -> Result<Word, Refusal> {
+        Ok(Word::NoRound(fault))
     }
 
-    fn no_sheet(fault: SheetFault) -> Word {
-        Word::NoSheet(fault)
+    fn no_sheet(fault: SheetFault) -> Result<Word, Refusal> {
+        Ok(Word::NoSheet(fault))
     }
 
     #[test]
     fn words(rt: HostRuntime) {
-        assert_eq!(rt; star(&STAR_LEGS, &STAR_PARTS), Word::Shortest(18));
-        assert_eq!(rt; star(&STAR_LEGS, &[]), Word::Apart(18, 9));
+        assert_eq!(rt; star(&STAR_LEGS, &STAR_PARTS), Ok(Word::Shortest(18)));
+        assert_eq!(rt; star(&STAR_LEGS, &[]), Ok(Word::Apart(18, 9)));
         assert_eq!(rt;
             star(&STAR_LEGS, &[4, 0, 1, 0, 0, 5, 0, 0, 1, 0, 8, 0, 0, 0, 1]),
-            Word::Apart(18, 18)
+            Ok(Word::Apart(18, 18))
         );
         assert_eq!(rt;
             star(&[0, 1, 2, 3, 5], &STAR_PARTS),
@@ -56,39 +55,33 @@ mod tests {
     fn refusals(rt: HostRuntime) {
         assert_eq!(rt;
             check_round(0, &[], 0, &[], &[]),
-            Word::Refused(Refusal::Crossings(0))
+            Err(Refusal::Crossings(0))
         );
         assert_eq!(rt;
             check_round(2, &[0, 1], 0, &[], &[]),
-            Word::Refused(Refusal::Numbers(2))
+            Err(Refusal::Numbers(2))
         );
         assert_eq!(rt;
             check_round(2, &[0, 2, 1], 0, &[], &[]),
-            Word::Refused(Refusal::OutOfRange(0))
+            Err(Refusal::OutOfRange(0))
         );
         assert_eq!(rt;
             check_round(2, &[0, 1, 1], 2, &[], &[]),
-            Word::Refused(Refusal::Depot(2))
+            Err(Refusal::Depot(2))
         );
-        assert_eq!(rt;
-            star(&[0, 1, 6, 7], &[]),
-            Word::Refused(Refusal::NoStreet(2))
-        );
-        assert_eq!(rt;
-            star(&STAR_LEGS, &[4, 0, 1, 0]),
-            Word::Refused(Refusal::Parts(4))
-        );
+        assert_eq!(rt; star(&[0, 1, 6, 7], &[]), Err(Refusal::NoStreet(2)));
+        assert_eq!(rt; star(&STAR_LEGS, &[4, 0, 1, 0]), Err(Refusal::Parts(4)));
         assert_eq!(rt;
             check_round(1, &[], 0, &[], &[0; 802]),
-            Word::Refused(Refusal::Parts(401))
+            Err(Refusal::Parts(401))
         );
         assert_eq!(rt;
             check_round(1, &[], 0, &[], &[1, 0, 10_000_001, 0]),
-            Word::Refused(Refusal::Parts(1))
+            Err(Refusal::Parts(1))
         );
         assert_eq!(rt;
             check_round(1, &[], 0, &[0], &[1]),
-            Word::Refused(Refusal::NoStreet(0))
+            Err(Refusal::NoStreet(0))
         );
         assert_eq!(rt;
             check_round(3, &[1, 2, 5], 0, &[], &[]),
@@ -98,22 +91,22 @@ mod tests {
 
     #[test]
     fn edges(rt: HostRuntime) {
-        assert_eq!(rt; check_round(1, &[], 0, &[], &[]), Word::Shortest(0));
+        assert_eq!(rt; check_round(1, &[], 0, &[], &[]), Ok(Word::Shortest(0)));
         assert_eq!(rt;
             check_round(1, &[], 0, &[], &[5, 1]),
             no_sheet(SheetFault::Part(0))
         );
         assert_eq!(rt;
             check_round(2, &[0, 1, 7], 0, &[0, 1], &[14, 0, 9]),
-            Word::Shortest(14)
+            Ok(Word::Shortest(14))
         );
         assert_eq!(rt;
             check_round(2, &[0, 1, 7], 0, &[0, 1], &[14, u64::MAX, 0]),
-            Word::Shortest(14)
+            Ok(Word::Shortest(14))
         );
         assert_eq!(rt;
             check_round(2, &[0, 1, 0], 0, &[0, 1], &[0, 0, 1]),
-            Word::Shortest(0)
+            Ok(Word::Shortest(0))
         );
         assert_eq!(rt;
             check_round(2, &[0, 1, 4], 0, &[0], &[3, 1, 1]),
@@ -128,26 +121,24 @@ mod tests {
     // What only looks right.
     #[test]
     fn looks_right(rt: HostRuntime) {
-        let grid = [
-            0, 1, 1, 1, 2, 1, 3, 4, 1, 4, 5, 1, 0, 3, 1, 1, 4, 1, 2, 5, 1,
-        ];
-        let parallel = [0, 1, 2, 0, 1, 3, 0, 1, 5];
-        let complete = [0, 1, 1, 0, 2, 1, 0, 3, 1, 1, 2, 1, 1, 3, 1, 2, 3, 1];
+        let grid = TWO_ROWS.as_flattened();
+        let parallel = PARALLEL.as_flattened();
+        let complete = FOUR_COMPLETE.as_flattened();
         let complete_legs = [0, 1, 2, 7, 8, 11, 10, 5];
         assert_eq!(rt;
             check_round(
                 6,
-                &grid,
+                grid,
                 0,
                 &[0, 2, 12, 7, 11, 10, 5, 9],
                 &[2, 0, 1, 0, 0, 0, 0],
             ),
-            Word::Shortest(8)
+            Ok(Word::Shortest(8))
         );
         // A street whose ends are one crossing makes no crossing odd.
         assert_eq!(rt;
-            check_round(2, &[0, 1, 4, 1, 1, 3], 0, &[0, 2, 1], &[8, 0, 1]),
-            Word::Shortest(11)
+            check_round(2, LOOP.as_flattened(), 0, &[0, 2, 1], &[8, 0, 1]),
+            Ok(Word::Shortest(11))
         );
         assert_eq!(rt;
             check_round(2, &[0, 1, 4, 0, 1, 4, 1, 1, 3], 0, &[0, 4, 3], &[1, 0, 1]),
@@ -155,22 +146,22 @@ mod tests {
         );
         // Two streets with the same ends are two.
         assert_eq!(rt;
-            check_round(2, &parallel, 0, &[0, 1], &[]),
+            check_round(2, parallel, 0, &[0, 1], &[]),
             no_round(Fault::Street(1))
         );
         assert_eq!(rt;
-            check_round(2, &parallel, 0, &[0, 1, 2, 5], &[4, 0, 1]),
-            Word::Shortest(12)
+            check_round(2, parallel, 0, &[0, 1, 2, 5], &[4, 0, 1]),
+            Ok(Word::Shortest(12))
         );
         // Weights of whole metres fall short where halves are needed.
         assert_eq!(rt;
-            check_round(4, &complete, 0, &complete_legs, &[2, 1, 0, 0, 0]),
-            Word::Apart(8, 7)
+            check_round(4, complete, 0, &complete_legs, &[2, 1, 0, 0, 0]),
+            Ok(Word::Apart(8, 7))
         );
         assert_eq!(rt;
             check_round(
                 4,
-                &complete,
+                complete,
                 0,
                 &complete_legs,
                 &[2, 1, 0, 0, 0, 2, 0, 1, 0, 0],
@@ -181,18 +172,16 @@ mod tests {
 
     #[test]
     fn last_worked_town(rt: HostRuntime) {
-        let town = [
-            0, 1, 4, 1, 2, 3, 2, 3, 4, 3, 0, 3, 0, 2, 5, 2, 4, 2, 3, 4, 2,
-        ];
+        let town = QUARTER.as_flattened();
         assert_eq!(rt;
             check_round(
                 5,
-                &town,
+                town,
                 0,
                 &[0, 2, 4, 6, 7, 12, 11, 9],
                 &[6, 1, 0, 0, 0, 0],
             ),
-            Word::Shortest(26)
+            Ok(Word::Shortest(26))
         );
     }
 }

@@ -1,6 +1,6 @@
+// Tests of shortest ways: a table of towns, and random towns beside another method.
 #![tactic(auto)]
 
-// Tests of shortest ways: a table of towns, and random towns beside another method.
 #[cfg(test)]
 mod common;
 #[cfg(test)]

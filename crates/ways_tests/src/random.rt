@@ -1,117 +1,89 @@
 // Random small towns, beside distances found by allowing one crossing after the other on the way.
 ghost use Rattle.std.specs.Prelude.{◌<◌};
 
-use crate::common::{leads, town_of};
+use crate::common::leads;
 use road::Town;
-use std::alloc::Global;
+use std::alloc::AllocGlobal;
+use std::array;
 use std::process::Abort;
 use std::test::Fail;
+use test_towns::Random;
 use ways::Ways;
 
 // More than any distance.
 const FAR: u64 = 1_000_000;
 
-// A sequence of numbers.
-#[derive(Drop)]
-struct Random {
-    seed: u64,
-}
-
-impl Random {
-    // The next number, below a limit.
-    fn below(&mut self, limit: u64) -> u64
-        requires { 0 < limit }
-        ensures { result < limit }
-    {
-        self.seed = self
-            .seed
-            .wrapping_mul(6364136223846793005)
-            .wrapping_add(1442695040888963407);
-        (self.seed >> 33) % limit
-    }
-
-    // The ends and the lengths of eight streets; many have no length.
-    fn streets(&mut self, crossings: u64) -> [u64; 24]
-        requires { 0 < crossings }
-    {
-        let mut numbers = [0; 24];
-        for k in 0..8 {
-            numbers[3 * k] = self.below(crossings);
-            numbers[3 * k + 1] = self.below(crossings);
-            numbers[3 * k + 2] = self.below(12).saturating_sub(3);
-        }
-        numbers
-    }
+// Eight streets; many have no length.
+fn streets(random: &mut Random, crossings: u64) -> [[u64; 3]; 8] {
+    array::from_fn(|_| {
+        let [one, two, long] = random.street(crossings, 12);
+        [one, two, long.saturating_sub(3)]
+    })
 }
 
 // The distances between five crossings.
 #[derive(Drop)]
 struct Table {
-    between: [u64; 25],
+    between: [[u64; 5]; 5],
+}
+
+// The distances from a crossing, where drives over one at a distance are allowed too.
+fn shortened(row: &[u64; 5], distance: u64, rest: &[u64; 5]) -> [u64; 5] {
+    array::from_fn(|w| row[w].min(distance.saturating_add(rest[w])))
 }
 
 impl Table {
-    fn at(&self, v: usize, w: usize) -> u64
-        requires first { v < 5 }
-        requires second { w < 5 }
-    {
-        self.between[5 * v + w]
+    // Over no street.
+    fn apart() -> Table {
+        Table {
+            between: array::from_fn(|v| array::from_fn(|w| if v == w { 0 } else { FAR })),
+        }
     }
 
     fn shorten(&mut self, v: usize, w: usize, length: u64)
         requires first { v < 5 }
         requires second { w < 5 }
     {
-        if length < self.between[5 * v + w] {
-            self.between[5 * v + w] = length;
-        }
+        self.between[v][w] = self.between[v][w].min(length);
     }
 
     // Over at most one street.
-    fn of(numbers: &[u64]) -> Table {
-        let mut table = Table { between: [FAR; 25] };
-        for v in 0..5 {
-            table.shorten(v, v, 0);
-        }
-        for street in numbers.chunks(3) {
-            if let [one, two, long] = street {
-                let v = (*one % 5) as usize;
-                let w = (*two % 5) as usize;
-                table.shorten(v, w, *long);
-                table.shorten(w, v, *long);
-            }
+    fn of(streets: &[[u64; 3]]) -> Table {
+        let mut table = Table::apart();
+        for [one, two, long] in streets {
+            let v = (*one % 5) as usize;
+            let w = (*two % 5) as usize;
+            table.shorten(v, w, *long);
+            table.shorten(w, v, *long);
         }
         table
     }
 
     // Through crossing u too.
-    fn allow(&mut self, u: usize)
+    fn through(&self, u: usize) -> Table
         requires { u < 5 }
     {
-        for pair in 0..25 {
-            let v = pair / 5;
-            let w = pair % 5;
-            self.shorten(v, w, self.at(v, u).saturating_add(self.at(u, w)));
+        Table {
+            between: array::from_fn(|v| {
+                let row = &self.between[v];
+                shortened(row, row[u], &self.between[u])
+            }),
         }
     }
 }
 
-// The distances beside those of another method, and each way driven.
+// The distances from a crossing beside those of another method, and each way driven.
 fn check_start(
-    rt: &impl Abort,
-    heap: Global,
+    rt: &(impl Abort + AllocGlobal),
     town: &Town,
-    table: &Table,
     start: usize,
-) -> Result<(), Fail>
-    requires { start < 5 }
-{
-    let ways = Ways::new(town, start, heap)?;
-    for end in 0..town.crossings.min(5) {
-        let length = table.at(start, end);
+    row: &[u64; 5],
+) -> Result<(), Fail> {
+    let ways = Ways::new(town, start, rt.alloc())?;
+    for (end, length) in row.iter().enumerate().take(town.crossings) {
         assert_eq!(rt;
             ways.distance(end)?,
-            if length < FAR { Some(length) } else { None }
+            Some(*length).filter(|length| *length < FAR)
         );
         if let Some(way) = ways.way(end)? {
             assert!(rt; leads(town, way, start, end));
@@ -120,14 +92,15 @@ fn check_start(
     Ok(())
 }
 
-fn check_town(rt: &impl Abort, heap: Global, crossings: u64, numbers: &[u64]) -> Result<(), Fail> {
-    let town = town_of(crossings, numbers)?;
-    let mut table = Table::of(numbers);
-    for u in 0..5 {
-        table.allow(u);
-    }
-    for start in 0..town.crossings.min(5) {
-        check_start(rt, heap, &town, &table, start)?;
+fn check_town(
+    rt: &(impl Abort + AllocGlobal),
+    crossings: u64,
+    streets: &[[u64; 3]],
+) -> Result<(), Fail> {
+    let town = Town::take(crossings, streets.as_flattened(), 0)?;
+    let table = (0..5).fold(Table::of(streets), |table, u| table.through(u));
+    for (start, row) in table.between.iter().enumerate().take(town.crossings) {
+        check_start(rt, &town, start, row)?;
     }
     Ok(())
 }
@@ -137,9 +110,9 @@ fn random_towns(rt: HostRuntime) -> Result<(), Fail> {
     let mut random = Random { seed: 1 };
     for _ in 0..400 {
         let crossings = 1 + random.below(5);
-        let numbers = random.streets(crossings);
+        let streets = streets(&mut random, crossings);
         let count = random.below(9) as usize;
-        check_town(&rt, rt.alloc(), crossings, &numbers[0..3 * count])?;
+        check_town(&rt, crossings, &streets[..count])?;
     }
     Ok(())
 }

@@ -1,21 +1,21 @@
 // Towns with their distances from one crossing, by hand.
-use crate::common::{leads, town_of};
-use std::alloc::Global;
+use crate::common::leads;
+use road::Town;
+use std::alloc::AllocGlobal;
 use std::process::Abort;
 use std::test::Fail;
 use ways::{NoWays, Ways};
 
 // Checks the distances from a crossing, one for each crossing of the town, and drives each way.
 fn check_from(
-    rt: &impl Abort,
-    heap: Global,
+    rt: &(impl Abort + AllocGlobal),
     crossings: u64,
     numbers: &[u64],
     start: usize,
     distances: &[Option<u64>],
 ) -> Result<(), Fail> {
-    let town = town_of(crossings, numbers)?;
-    let ways = Ways::new(&town, start, heap)?;
+    let town = Town::take(crossings, numbers, 0)?;
+    let ways = Ways::new(&town, start, rt.alloc())?;
     for (end, distance) in distances.iter().enumerate() {
         assert_eq!(rt; ways.distance(end)?, *distance);
         if let Some(way) = ways.way(end)? {
@@ -31,15 +31,14 @@ fn check_from(
 
 #[test]
 fn one_crossing(rt: HostRuntime) -> Result<(), Fail> {
-    check_from(&rt, rt.alloc(), 1, &[], 0, &[Some(0)])?;
-    check_from(&rt, rt.alloc(), 1, &[0, 0, 7], 0, &[Some(0)])
+    check_from(&rt, 1, &[], 0, &[Some(0)])?;
+    check_from(&rt, 1, &[0, 0, 7], 0, &[Some(0)])
 }
 
 #[test]
 fn no_length(rt: HostRuntime) -> Result<(), Fail> {
     check_from(
         &rt,
-        rt.alloc(),
         3,
         &[0, 1, 0, 1, 2, 0, 2, 0, 0],
         1,
@@ -50,29 +49,14 @@ fn no_length(rt: HostRuntime) -> Result<(), Fail> {
 #[test]
 fn both_ways(rt: HostRuntime) -> Result<(), Fail> {
     let streets = [2, 1, 3, 1, 0, 4];
-    check_from(
-        &rt,
-        rt.alloc(),
-        3,
-        &streets,
-        0,
-        &[Some(0), Some(4), Some(7)],
-    )?;
-    check_from(
-        &rt,
-        rt.alloc(),
-        3,
-        &streets,
-        2,
-        &[Some(7), Some(3), Some(0)],
-    )
+    check_from(&rt, 3, &streets, 0, &[Some(0), Some(4), Some(7)])?;
+    check_from(&rt, 3, &streets, 2, &[Some(7), Some(3), Some(0)])
 }
 
 #[test]
 fn parallel_streets_and_loops(rt: HostRuntime) -> Result<(), Fail> {
     check_from(
         &rt,
-        rt.alloc(),
         2,
         &[0, 1, 9, 1, 0, 5, 0, 1, 6, 1, 1, 0],
         0,
@@ -84,7 +68,6 @@ fn parallel_streets_and_loops(rt: HostRuntime) -> Result<(), Fail> {
 fn longer_by_fewer_streets(rt: HostRuntime) -> Result<(), Fail> {
     check_from(
         &rt,
-        rt.alloc(),
         4,
         &[0, 3, 100000, 0, 1, 30000, 1, 2, 30000, 2, 3, 30000],
         0,
@@ -95,32 +78,16 @@ fn longer_by_fewer_streets(rt: HostRuntime) -> Result<(), Fail> {
 #[test]
 fn apart(rt: HostRuntime) -> Result<(), Fail> {
     let streets = [0, 1, 2, 2, 3, 4];
-    check_from(
-        &rt,
-        rt.alloc(),
-        5,
-        &streets,
-        0,
-        &[Some(0), Some(2), None, None, None],
-    )?;
-    check_from(
-        &rt,
-        rt.alloc(),
-        5,
-        &streets,
-        4,
-        &[None, None, None, None, Some(0)],
-    )
+    check_from(&rt, 5, &streets, 0, &[Some(0), Some(2), None, None, None])?;
+    check_from(&rt, 5, &streets, 4, &[None, None, None, None, Some(0)])
 }
 
 #[test]
 fn no_such_start(rt: HostRuntime) -> Result<(), Fail> {
-    let town = town_of(2, &[0, 1, 5])?;
-    match Ways::new(&town, 2, rt.alloc()) {
-        Ok(_) => Err(Fail::new("a start past the crossings was taken")),
-        Err(e) => {
-            assert_eq!(rt; e, NoWays::NoCrossing(2));
-            Ok(())
-        },
-    }
+    let town = Town::take(2, &[0, 1, 5], 0)?;
+    assert_eq!(rt;
+        Ways::new(&town, 2, rt.alloc()).err(),
+        Some(NoWays::NoCrossing(2))
+    );
+    Ok(())
 }

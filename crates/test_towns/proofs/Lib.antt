@@ -1,0 +1,3 @@
+-- The lemmas.
+mod Drives
+mod Streets

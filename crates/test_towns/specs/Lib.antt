@@ -1,0 +1,2 @@
+-- What the functions promise of the streets that they make.
+pub mod Streets
