@@ -14,34 +14,21 @@ use Rattle.join.proofs.Cost.{cost_none, outs_odd}
 -- a set costs no more where no street does
 cost_le : (t : Town) (l m : ℕ → ℕ) (J : Set) → ((k : ℕ) → k < size t → l k ≤ m k) → cost t l J ≤ cost t m J
 unfolding cost
-cost_le t l m J h = sum_le (size t) (λ k. when (J k) (l k)) (λ k. when (J k) (m k)) (λ k i. at (J k) (l k) (m k) (h k i))
-  where
-    at : (b : Bool) (x y : ℕ) → x ≤ y → when b x ≤ when b y
-    at true x y h = h
-    at false x y h = omega arith
+cost_le t l m J h = sum_le (size t) (λ k. when (J k) (l k)) (λ k. when (J k) (m k)) (λ k i. let le = h k i in grind arith)
 
 -- costs add up
 cost_add : (t : Town) (l m : ℕ → ℕ) (J : Set) → cost t (λ k. l k + m k) J ≡ cost t l J + cost t m J
 unfolding cost
 cost_add t l m J =
-    sum_ext (size t) (λ k. when (J k) (l k + m k)) (λ k. when (J k) (l k) + when (J k) (m k)) (λ k _. at (J k) (l k) (m k))
+    sum_ext (size t) (λ k. when (J k) (l k + m k)) (λ k. when (J k) (l k) + when (J k) (m k)) (λ k _. grind arith)
     ∙ sum_add (size t) (λ k. when (J k) (l k)) (λ k. when (J k) (m k))
-  where
-    at : (b : Bool) (x y : ℕ) → when b (x + y) ≡ when b x + when b y
-    at true x y = refl
-    at false x y = refl
 
 -- what a class charges the streets of a set
 cost_class : (t : Town) (Z : Set) (e : ℕ) (J : Set) → cost t (λ k. when (cut t Z k) e) J ≡ e * outs t Z J
 unfolding cost
 cost_class t Z e J =
-    sum_ext (size t) (λ k. when (J k) (when (cut t Z k) e)) (λ k. e * when (J k) (bit (cut t Z k))) (λ k _. at (J k) (cut t Z k))
+    sum_ext (size t) (λ k. when (J k) (when (cut t Z k) e)) (λ k. e * when (J k) (bit (cut t Z k))) (λ k _. grind arith)
     ∙ sum_scale (size t) e (λ k. when (J k) (bit (cut t Z k)))
-  where
-    at : (a b : Bool) → when a (when b e) ≡ e * when a (bit b)
-    at true true = omega arith
-    at true false = omega arith
-    at false b = omega arith
 
 -- and what the first n classes do
 charges : (t : Town) (ss : List Stage) (n : ℕ) (J : Set) → cost t (street_charge t ss n) J ≡ sum n (λ i. charge_at ss i * outs t (class_at ss i) J)
@@ -55,11 +42,7 @@ charges t ss (suc n) J =
 module _ (t : Town) (A : Set) (c : ℕ → ℕ) (r : ℕ) (In : Set) (f : ℕ → ℕ) (K : ℕ → Set) (ss : List Stage) (shown : Certified t A c r In f K ss) where
   -- a set that leads to u leads out of each class without u
   leads : (u : ℕ) (J : Set) → Joins t (once t A r) u J → (i : ℕ) → i < length ss → out t J (class_at ss i) ≡ not (class_at ss i u)
-  leads u J j i h = let Z = class_at ss i in j Z ∙ ap (λ a. (a ⊕ Z r) ⊕ Z u) (shown.odd i h) ∙ at (Z r) (Z u)
-    where
-      at : (a b : Bool) → (not a ⊕ a) ⊕ b ≡ not b
-      at true b = refl
-      at false b = refl
+  leads u J j i h = let Z = class_at ss i in j Z ∙ ap (λ a. (a ⊕ Z r) ⊕ Z u) (shown.odd i h) ∙ grind arith
 
   -- so it costs as much as the class is charged
   pays : (u : ℕ) (J : Set) → Joins t (once t A r) u J → (i : ℕ) → i < length ss → when (not (class_at ss i u)) (charge_at ss i) ≤ charge_at ss i * outs t (class_at ss i) J

@@ -1,13 +1,11 @@
 -- Where no potential is left, the stages of a pass show that all prices are least. Assumes nothing.
-use Rattle.std.proofs.Common.{◌≡◌, ℕ, zero, suc, ◌+◌, ◌<◌, ◌≤◌, Bool, true, false, not, ◌&&◌, List, length, get_or, sym, refl, ap, arith}
-use Rattle.std.proofs.lemmas.Bool.{both_ways, not-true}
-use Rattle.road.specs.Counts.{◌⊕◌, when, sum, size, cut}
-use Rattle.road.specs.Model.{marked}
+use Rattle.std.proofs.Common.{◌≡◌, ℕ, zero, suc, ◌+◌, ◌<◌, ◌≤◌, true, not, ◌&&◌, List, length, get_or, sym, ap, arith}
+use Rattle.std.proofs.lemmas.Bool.{not-true}
+use Rattle.road.specs.Counts.{when, sum, size, cut}
 use Rattle.join.specs.declared.level.Level.{Level}
 use Rattle.join.specs.declared.partition.Classes.{Classes}
 use Rattle.join.specs.declared.prices.Prices.{Prices}
 use Rattle.join.specs.declared.turn.Stage.{Stage}
-use Rattle.join.specs.Joins.{out}
 use Rattle.join.specs.Problems.{town_in, costs_in, start_in, reached_in}
 use Rattle.join.specs.Prices.{extra_in, price_in}
 use Rattle.join.specs.Turns.{lengths_at, potential_at}
@@ -17,16 +15,6 @@ use Rattle.join.proofs.Exchange.{border}
 use Rattle.join.proofs.Progress.{progress_most}
 use Rattle.join.proofs.Restoring.{back_at}
 use Rattle.join.proofs.Descending.{lengths_low}
-
--- one of two is true just if the other is not
-xor_not : (a b : Bool) → a ⊕ b ≡ true → a ≡ not b
-xor_not true true e = absurd (both_ways false refl e)
-xor_not true false e = refl
-xor_not false b e = at b e
-  where
-    at : (b : Bool) → b ≡ true → false ≡ not b
-    at true e = refl
-    at false e = absurd (both_ways false refl e)
 
 module _ (q : Prices) (c : Classes) (ss : List Stage) (staged : AllStaged q c ss (length ss)) where
   -- what stages leave of a length, and what they charge the street, are its cost
@@ -58,8 +46,8 @@ certify q c ss v r none = record {
     costs = λ u h. sym (q.costs u h);
     odd = λ i h.
         let s = r.staged i h in
-        xor_not (out (town_in q.problem) (marked q.problem.required.now) (class_at ss i)) (class_at ss i q.problem.town.now.depot)
-        (border (town_in q.problem) (start_in q.problem) _ _ (get_or ss i no_stage).base (class_at ss i) (charge_at ss i) (extra_in q (get_or ss i no_stage).base) s.stage s.base);
+        let b = border (town_in q.problem) (start_in q.problem) _ _ (get_or ss i no_stage).base (class_at ss i) (charge_at ss i) (extra_in q (get_or ss i no_stage).base) s.stage s.base in
+        grind arith;
     bears = λ k h. omega (arith, lengths_sum q c ss r.staged (length ss) (omega arith) k h);
     sums = λ u h. omega (arith, potentials_sum q c ss r.staged (length ss) (omega arith) u h, ap (λ g. g u) r.after.crossings, none u h);
     some = λ i h. (r.staged i h).some;

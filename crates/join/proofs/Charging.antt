@@ -1,5 +1,5 @@
 -- What is left after a charge. Assumes nothing.
-use Rattle.std.proofs.Common.{◌≡◌, ℕ, ◌<◌, ◌≤◌, true, false, sym, ap, subst, arith}
+use Rattle.std.proofs.Common.{◌≡◌, ℕ, ◌<◌, ◌≤◌, true, false, ap, arith}
 use Rattle.road.specs.Roads.{Town}
 use Rattle.road.specs.Counts.{size, Set, cut}
 use Rattle.join.specs.declared.level.Level.{Level}
@@ -9,7 +9,7 @@ use Rattle.join.specs.Joins.{shorter}
 use Rattle.join.specs.Problems.{town_in, start_in, reached_in}
 use Rattle.join.specs.Prices.{extra_in}
 use Rattle.join.specs.Classes.{Classed}
-use Rattle.join.specs.Potentials.{Potential, lower}
+use Rattle.join.specs.Potentials.{lower}
 use Rattle.join.specs.Turns.{lengths_at, potential_at, Pass, Charged}
 use Rattle.join.proofs.Stages as stages
 
@@ -25,9 +25,8 @@ module _ (q : Prices) (v : Level) (Z : Set) (e b : ℕ) (s : Pass q v)
   -- and what is left is as before
   pub pass_on : (v' : Level) → lengths_at v' ≡ shorter (town_in q.problem) Z e (lengths_at v) → potential_at v' ≡ lower (reached_in q.problem) Z e (potential_at v) → Pass q v'
   pass_on v' el eg = record {
-    level = subst (λ l. Potential (town_in q.problem) (start_in q.problem) (reached_in q.problem) l (potential_at v') (extra_in q)) (sym el)
-        (subst (λ g. Potential (town_in q.problem) (start_in q.problem) (reached_in q.problem) (shorter (town_in q.problem) Z e (lengths_at v)) g (extra_in q)) (sym eg)
-        (stages.level_on (town_in q.problem) (start_in q.problem) (reached_in q.problem) (lengths_at v) (potential_at v) (extra_in q) s.level b Z c.class c.lowest e c.stage));
+    level = rw (el, eg)
+        (stages.level_on (town_in q.problem) (start_in q.problem) (reached_in q.problem) (lengths_at v) (potential_at v) (extra_in q) s.level b Z c.class c.lowest e c.stage);
   }
 
 -- ways over streets of no length stay so

@@ -1,25 +1,56 @@
 -- Where a set J has two streets or more out of the class Z there is a circuit for the exchange. Assumes nothing.
-use Rattle.std.proofs.Common.{◌≡◌, ℕ, ◌<◌, ◌≤◌, Bool, true, false, not, ◌&&◌, eqb, ◌⊎◌, sym, refl, ap, ◌∙◌, ap₂, inl, inr, ⊎_elim, arith}
-use Rattle.std.proofs.lemmas.Bool.{eqb-true, eq-eqb, cases_Bool, both_ways, and_parts, not-true}
+use Rattle.std.proofs.Common.{◌≡◌, ℕ, ◌<◌, ◌≤◌, Bool, true, false, not, ◌&&◌, eqb, ◌⊎◌, sym, ap, ◌∙◌, ap₂, inl, inr, ⊎_elim, arith}
+use Rattle.std.proofs.lemmas.Bool.{eq-eqb, both_ways, and_parts, not-true, false_from_ne_true, true_from_ne_false}
 use Rattle.road.specs.Roads.{Town}
-use Rattle.road.specs.Counts.{◌⊕◌, bit, size, one, two, Set, cut, Side, forth, back}
-use Rattle.road.proofs.Parity.{xor_false, xor_same, xor_true}
+use Rattle.road.specs.Counts.{◌⊕◌, bit, size, Set, cut, Side, forth, back}
+use Rattle.road.proofs.Parity.{xor_false, xor_true}
 use Rattle.road.proofs.Sums.{par_ext, par_only}
 use Rattle.road.proofs.Find.{None, Some, find}
 use Rattle.road.proofs.Cuts.{side_cut, side_turn, cut_side}
-use Rattle.join.specs.Joins.{◌⊞◌, single, out, Joins, at, outs, ZeroWay}
-use Rattle.join.proofs.Joins.{out_none, join_on, join_back, join_between}
+use Rattle.join.specs.Joins.{◌⊞◌, out, Joins, at, outs, ZeroWay}
+use Rattle.join.proofs.Joins.{join_on, join_back, join_between, join_uncut}
 use Rattle.join.proofs.Reach.{Way, Reach, reach}
-use Rattle.join.proofs.Cost.{at_least_two, cost_drop, outs_odd, some_out}
+use Rattle.join.proofs.Cost.{at_least_two, two_out}
 use Rattle.join.specs.Exchange.{Exit, Stage, Circuit, circuit}
-use Rattle.join.proofs.Exchange.{exit_cut, Outcome, border, exchange_from}
+use Rattle.join.specs.Circuits.{outside}
+use Rattle.join.proofs.Exchange.{exit_cut, Outcome, parity, exchange_from}
 
--- what holds nowhere else holds only here
-alone : (f o : Bool) → (f && not o) ≡ false → f ≡ (o && f)
-alone true true p = refl
-alone true false p = p
-alone false true p = refl
-alone false false p = refl
+-- outside streets are such in which the sets differ, and are not cut
+pub outside_free : (t : Town) (Z J B : Set) (i : ℕ) → outside t Z J B i ≡ true → (J i ⊕ B i ≡ true) × (cut t Z i ≡ false)
+outside_free t Z J B i p =
+    (grind arith, grind arith)
+
+-- and are all such
+outside_make : (t : Town) (Z J B : Set) (i x y : ℕ) → J i ⊕ B i ≡ true → Side t i x y → Z x ≡ false → Z y ≡ false → outside t Z J B i ≡ true
+outside_make t Z J B i x y h forth p q = rw (h, p, q)
+outside_make t Z J B i x y h back p q = rw (h, p, q)
+
+-- B is not cut. Y has no crossing of Z, and no outside street leads out of it
+module _ (t : Town) (Z J B : Set) (clear : (k : ℕ) → k < size t → cut t Z k ≡ true → B k ≡ false) (Y : Set) (away : (u : ℕ) → Y u ≡ true → Z u ≡ false)
+    (closed : (i : ℕ) → i < size t → outside t Z J B i ≡ true → cut t Y i ≡ false) where
+  off : (x : ℕ) → Z x ≡ true → Y x ≡ false
+  off x p = false_from_ne_true (Y x) (λ q. both_ways (Z x) (away x q) p)
+
+  -- a street that leads out of Y, and in which the sets differ, leads into Z
+  pub touch : (i : ℕ) → i < size t → J i ⊕ B i ≡ true → cut t Y i ≡ true → (x : ℕ) × (y : ℕ) × Exit t Z J i x y × (Y y ≡ true)
+  touch i h hi ci =
+      let c = cut_side t i Y ci in
+      let out_p = away c.0 c.3 in
+      let in_q = true_from_ne_false (Z c.1) (λ n. both_ways (cut t Y i) (closed i h (outside_make t Z J B i c.0 c.1 hi c.2 out_p n)) ci) in
+      let ck : cut t Z i ≡ true = side_cut t i c.0 c.1 Z c.2 ∙ ap₂ (λ p q. p ⊕ q) out_p in_q in
+      let own = sym (ap (λ z. J i ⊕ z) (clear i h ck) ∙ xor_false (J i)) ∙ hi in
+      (c.1, c.0, record { below = h; own = own; side = side_turn t i c.0 c.1 c.2; inside = in_q; outside = out_p }, c.3)
+
+  -- where only k does, v is in Y
+  pub only_one : (T : Set → Bool) (b v : ℕ) → Z b ≡ true → Joins t T b B → Joins t T v J → (k x y : ℕ) → Exit t Z J k x y → Y y ≡ true →
+      ((i : ℕ) → i < size t → eqb i k ≡ false → ((J i ⊕ B i) && cut t Y i) ≡ false) → Y v ≡ true
+  unfolding out
+  only_one T b v base hB hJ k x y d in_y none =
+      sym (ap (λ z. Y v ⊕ z) (off b base) ∙ xor_false (Y v)) ∙ sym (join_between t T v b J B hJ hB Y)
+      ∙ par_ext (size t) (λ i. (J i ⊕ B i) && cut t Y i) (λ i. eqb i k && ((J i ⊕ B i) && cut t Y i)) (λ i h. let n = none i h in grind arith)
+      ∙ par_only (size t) (λ i. (J i ⊕ B i) && cut t Y i) k d.below
+      ∙ ap₂ (λ p q. p && q) (ap₂ (λ p q. p ⊕ q) d.own (clear k d.below (exit_cut t Z J k x y d)))
+      (side_cut t k x y Y d.side ∙ ap₂ (λ p q. p ⊕ q) (off x d.inside) in_y)
 
 module _ (t : Town) (T : Set → Bool) (l g : ℕ → ℕ) (b : ℕ) (Z : Set) (e : ℕ) (B : Set) (s : Stage t T l g b Z e B)
     (base : Z b ≡ true) (way : (x : ℕ) → Z x ≡ true → ZeroWay t l b x) (v : ℕ) (J : Set) (hJ : Joins t T v J) where
@@ -28,32 +59,8 @@ module _ (t : Town) (T : Set → Bool) (l g : ℕ → ℕ) (b : ℕ) (Z : Set) (
   H k = J k ⊕ B k
 
   -- the streets of H with both ends outside Z
-  outer : Set
-  outer k = H k && (not (Z (one t k)) && not (Z (two t k)))
-
-  -- they are not cut, are in H, and are all such streets
-  outer_uncut : (k : ℕ) → outer k ≡ true → cut t Z k ≡ false
-  unfolding outer
-  outer_uncut k p =
-      let q = (and_parts (H k) (not (Z (one t k)) && not (Z (two t k))) p).1 in
-      let r = and_parts (not (Z (one t k))) (not (Z (two t k))) q in
-      ap₂ (λ p q. p ⊕ q) (not-true (Z (one t k)) r.0) (not-true (Z (two t k)) r.1)
-
-  outer_own : (k : ℕ) → outer k ≡ true → H k ≡ true
-  unfolding outer
-  outer_own k p = (and_parts (H k) (not (Z (one t k)) && not (Z (two t k))) p).0
-
-  outer_make : (k x y : ℕ) → H k ≡ true → Side t k x y → Z x ≡ false → Z y ≡ false → outer k ≡ true
-  unfolding outer
-  outer_make k x y h forth p q = rw (h, p, q)
-  outer_make k x y h back p q = rw (h, p, q)
-
-  -- outer streets do not lead into Z
-  stays : (x y : ℕ) → Way t outer x y → Z x ≡ Z y
-  stays x y w = xor_same (Z x) (Z y) (sym (w.1 Z) ∙ out_none t w.0 Z none)
-    where
-      none : (k : ℕ) → k < size t → cut t Z k ≡ true → w.0 k ≡ false
-      none k _ c = ⊎_elim (λ y. absurd (both_ways (cut t Z k) (outer_uncut k (w.2 k y)) c)) (λ n. n) (cases_Bool (w.0 k))
+  abbrev outer : Set
+  outer = outside t Z J B
 
   -- two streets out of Z, joined outside, make a circuit
   closed : (k₁ x₁ y₁ k₂ x₂ y₂ : ℕ) → Exit t Z J k₁ x₁ y₁ → Exit t Z J k₂ x₂ y₂ → (k₁ ≡ k₂ → ⊥) → Way t outer y₁ y₂ → Circuit t l b Z J B
@@ -72,7 +79,7 @@ module _ (t : Town) (T : Set → Bool) (l g : ℕ → ℕ) (b : ℕ) (Z : Set) (
         apart = ne;
         W = w.0;
         outer = w.1;
-        free = λ k _ o. (outer_own k (w.2 k o), outer_uncut k (w.2 k o));
+        free = λ k _ o. outside_free t Z J B k (w.2 k o);
         Q₁ = q₁.0;
         inner₁ = q₁.1;
         zero₁ = q₁.2;
@@ -83,7 +90,6 @@ module _ (t : Town) (T : Set → Bool) (l g : ℕ → ℕ) (b : ℕ) (Z : Set) (
 
   -- a street out of Z leads on to another one, or to v: the number of those that end in a component outside is even but for v's
   other : (k x y : ℕ) → Exit t Z J k x y → Circuit t l b Z J B ⊎ Way t outer y v
-  unfolding out
   other k x y d = found (find (size t) (λ i. (H i && cut t Y i) && not (eqb i k)))
     where
       r : Reach t outer y (size t)
@@ -92,31 +98,13 @@ module _ (t : Town) (T : Set → Bool) (l g : ℕ → ℕ) (b : ℕ) (Z : Set) (
       Y : Set
       Y = r.set
 
-      outside : (x : ℕ) → Y x ≡ true → Z x ≡ false
-      outside x p = sym (stays y x (r.way x p)) ∙ d.outside
-
-      -- a street of H that leads out of the component leads into Z
-      touch : (i : ℕ) → i < size t → H i ≡ true → cut t Y i ≡ true → (x' : ℕ) × (y' : ℕ) × Exit t Z J i x' y' × (Y y' ≡ true)
-      touch i h hi ci =
-          let c = cut_side t i Y ci in
-          let out_p = outside c.0 c.3 in
-          let shut = λ (n : Z c.1 ≡ false). both_ways (cut t Y i) (r.closed i h (outer_make i c.0 c.1 hi c.2 out_p n)) ci in
-          let in_q : Z c.1 ≡ true = ⊎_elim (λ e. e) (λ n. absurd (shut n)) (cases_Bool (Z c.1)) in
-          let ck : cut t Z i ≡ true = side_cut t i c.0 c.1 Z c.2 ∙ ap₂ (λ p q. p ⊕ q) out_p in_q in
-          let own = sym (ap (λ z. J i ⊕ z) (s.clear i h ck) ∙ xor_false (J i)) ∙ hi in
-          (c.1, c.0, record { below = h; own = own; side = side_turn t i c.0 c.1 c.2; inside = in_q; outside = out_p }, c.3)
-
-      off : (x : ℕ) → Z x ≡ true → Y x ≡ false
-      off x p = ⊎_elim (λ q. absurd (both_ways (Z x) (outside x q) p)) (λ n. n) (cases_Bool (Y x))
+      away : (x : ℕ) → Y x ≡ true → Z x ≡ false
+      away x p = let w = r.way x p in sym (join_uncut t y x w.0 Z w.1 (λ i _ o. (outside_free t Z J B i (w.2 i o)).1)) ∙ d.outside
 
       -- where k is the only one, v is in the component
       lone : None (size t) (λ i. (H i && cut t Y i) && not (eqb i k)) → Y v ≡ true
-      lone none =
-          sym (ap (λ z. Y v ⊕ z) (off b base) ∙ xor_false (Y v)) ∙ sym (join_between t T v b J B hJ s.joins Y)
-          ∙ par_ext (size t) (λ i. H i && cut t Y i) (λ i. eqb i k && (H i && cut t Y i)) (λ i h. alone (H i && cut t Y i) (eqb i k) (none i h))
-          ∙ par_only (size t) (λ i. H i && cut t Y i) k d.below
-          ∙ ap₂ (λ p q. p && q) (ap₂ (λ p q. p ⊕ q) d.own (s.clear k d.below (exit_cut t Z J k x y d)))
-          (side_cut t k x y Y d.side ∙ ap₂ (λ p q. p ⊕ q) (off x d.inside) r.start)
+      lone none = only_one t Z J B s.clear Y away r.closed T b v base s.joins hJ k x y d r.start
+          (λ i h n. let o = none i h in grind arith)
 
       found : Some (size t) (λ i. (H i && cut t Y i) && not (eqb i k)) ⊎ None (size t) (λ i. (H i && cut t Y i) && not (eqb i k))
           → Circuit t l b Z J B ⊎ Way t outer y v
@@ -125,7 +113,7 @@ module _ (t : Town) (T : Set → Bool) (l g : ℕ → ℕ) (b : ℕ) (Z : Set) (
           let i = a.0 in
           let p = and_parts (H i && cut t Y i) (not (eqb i k)) a.2 in
           let q = and_parts (H i) (cut t Y i) p.0 in
-          let z = touch i a.1 q.0 q.1 in
+          let z = touch t Z J B s.clear Y away r.closed i a.1 q.0 q.1 in
           let ne = λ (e : k ≡ i). both_ways (eqb i k) (not-true (eqb i k) p.1) (eq-eqb i k (sym e)) in
           inl (closed k x y i z.0 z.1 d z.2 ne (r.way z.1 z.3))
 
@@ -149,21 +137,14 @@ module _ (t : Town) (T : Set → Bool) (l g : ℕ → ℕ) (b : ℕ) (Z : Set) (
   -- where two streets of J or more lead out of Z there is a circuit
   find_circuit : 2 ≤ outs t Z J → Circuit t l b Z J B
   find_circuit h =
-      let p = some_out t Z J (omega arith) in
-      let k = p.0 in
-      let q = some_out t Z (J ⊞ single k) (omega (arith, cost_drop t (λ k. bit (cut t Z k)) J k p.1 p.2, ap bit p.3)) in
-      let i = q.0 in
-      let gone : (J ⊞ single k) k ≡ false = ap₂ (λ p q. p ⊕ q) p.2 (eq-eqb k k refl) in
-      let ne = λ (e : k ≡ i). both_ways ((J ⊞ single k) k) gone (ap (J ⊞ single k) e ∙ q.2) in
-      let own : J i ≡ true = ⊎_elim (λ y. y) (λ y. absurd (ne (sym (eqb-true i k y)))) (xor_true (J i) (eqb i k) q.2) in
-      let d = exit k p.1 p.2 p.3 in
-      let d' = exit i q.1 own q.3 in
-      circuit_of k d.0 d.1 i d'.0 d'.1 d.2 d'.2 ne
+      let p = two_out t Z J h in
+      let d = exit p.0 p.3.0 p.3.1 p.3.2 in
+      let d' = exit p.1 p.4.0 p.4.1 p.4.2 in
+      circuit_of p.0 d.0 d.1 p.1 d'.0 d'.1 d.2 d'.2 p.2
 
   -- THE EXCHANGE: where more streets of J lead out of Z than v asks for, there is a circuit, and what comes of it
   pub exchange : bit (not (Z v)) < outs t Z J →
       (p : Circuit t l b Z J B) × Outcome t T l g Z e B v J p.k₁ p.y₁ p.Q₁ (circuit p.k₁ p.k₂ p.W p.Q₁ p.Q₂)
   exchange h =
-      let parity = outs_odd t Z J ∙ hJ Z ∙ ap (λ x. x ⊕ Z v) (border t T l g b Z e B s base) in
-      let p = find_circuit (at_least_two (not (Z v)) (outs t Z J) parity h) in
+      let p = find_circuit (at_least_two (not (Z v)) (outs t Z J) (parity t T l g b Z e B s base v J hJ) h) in
       (p, exchange_from t T l g b Z e B s v J hJ p)

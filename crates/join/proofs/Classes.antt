@@ -1,12 +1,11 @@
 -- Least joins and a class of crossings that are joined by streets of no length. Assumes nothing.
 use Rattle.std.proofs.Common.{◌≡◌, ℕ, ◌+◌, ◌*◌, ◌<◌, ◌≤◌, Bool, true, false, sym, ◌∙◌, ap₂, ⊎_elim, arith}
-use Rattle.std.proofs.lemmas.Bool.{cases_Bool, both_ways, cases_lt}
+use Rattle.std.proofs.lemmas.Bool.{cases_lt, false_from_ne_true}
 use Rattle.road.specs.Roads.{Town}
 use Rattle.road.specs.Counts.{◌⊕◌, size, one, two, Set, cut, Side, forth, back}
-use Rattle.road.proofs.Parity.{xor_same}
 use Rattle.road.proofs.Cuts.{cut_side}
-use Rattle.join.specs.Joins.{◌⊞◌, single, out, Joins, cost, Class, Room, Least}
-use Rattle.join.proofs.Joins.{out_none, join_on, join_back, side_join}
+use Rattle.join.specs.Joins.{◌⊞◌, single, Joins, cost, Class, Room, Least}
+use Rattle.join.proofs.Joins.{join_on, join_back, join_between, join_uncut, side_join}
 use Rattle.join.proofs.Cost.{cost_zero, cost_drop, cost_more, cost_none}
 use Rattle.join.specs.Exchange.{Exit, Stage}
 use Rattle.join.proofs.Exchange.{zero_uncut, over_joins, over_cost}
@@ -23,14 +22,10 @@ module _ (t : Town) (T : Set → Bool) (In : Set) (l f : ℕ → ℕ) (K : ℕ �
 
   -- where no street leads out of the class, nothing costs anything
   module _ (shut : (k : ℕ) → k < size t → cut t Z k ≡ false) where
-    -- no set has a street out of it
-    uncut : (J : Set) → out t J Z ≡ false
-    uncut J = out_none t J Z (λ k h y. absurd (both_ways (cut t Z k) (shut k h) y))
-
-    -- then the class is everywhere
+    -- the class is everywhere
     everywhere : (u : ℕ) → In u ≡ true → Z u ≡ true
     everywhere u iu =
-        sym (xor_same (T Z) (Z u) (sym (m.joins u iu Z) ∙ uncut (K u))) ∙ xor_same (T Z) (Z b) (sym (m.joins b ib Z) ∙ uncut (K b)) ∙ c.base
+        sym (join_uncut t b u (K b ⊞ K u) Z (join_between t T b u (K b) (K u) (m.joins b ib) (m.joins u iu)) (λ k h _. shut k h)) ∙ c.base
 
     -- a street of K b that has a length could be left out: its ends are joined by streets of no length
     no_length : (k : ℕ) → k < size t → K b k ≡ true → l k ≡ 0
@@ -40,7 +35,7 @@ module _ (t : Town) (T : Set → Bool) (In : Set) (l f : ℕ → ℕ) (K : ℕ �
         dearer d =
             let v = c.way (one t k) (everywhere (one t k) (m.ends k (two t k) (one t k) h back)) in
             let w = c.way (two t k) (everywhere (two t k) (m.ends k (one t k) (two t k) h forth)) in
-            let n : v.0 k ≡ false = ⊎_elim (λ q. absurd (omega (arith, v.2 k h q))) (λ q. q) (cases_Bool (v.0 k)) in
+            let n = false_from_ne_true (v.0 k) (λ q. omega (arith, v.2 k h q)) in
             let j = join_on t T b (one t k) (K b) v.0 (m.joins b ib) v.1 in
             let j' = join_on t T (one t k) (two t k) (K b ⊞ v.0) (single k) j (side_join t k (one t k) (two t k) h forth) in
             let j'' = join_on t T (two t k) b ((K b ⊞ v.0) ⊞ single k) w.0 j' (join_back t b (two t k) w.0 w.1) in
@@ -65,7 +60,7 @@ module _ (t : Town) (T : Set → Bool) (In : Set) (l f : ℕ → ℕ) (K : ℕ �
 
     -- so the least join to b has none
     clear : (k : ℕ) → k < size t → cut t Z k ≡ true → K b k ≡ false
-    clear k h ck = ⊎_elim (λ y. absurd (no y (cut_side t k Z ck))) (λ n. n) (cases_Bool (K b k))
+    clear k h ck = false_from_ne_true (K b k) (λ y. no y (cut_side t k Z ck))
       where
         no : K b k ≡ true → (x : ℕ) × (y : ℕ) × Side t k x y × (Z x ≡ true) × (Z y ≡ false) → ⊥
         no own s =

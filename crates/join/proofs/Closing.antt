@@ -1,7 +1,7 @@
 -- A circuit from what was come to outside, or a street that is alone. Assumes nothing.
 use Rattle.std.proofs.Common.{◌≡◌, ℕ, ◌<◌, true, sym, ap, ◌∙◌, subst}
 use Rattle.road.specs.Roads.{Town}
-use Rattle.road.specs.Counts.{size, Set, cut, Side}
+use Rattle.road.specs.Counts.{size, Set, cut}
 use Rattle.road.specs.Model.{marked}
 use Rattle.join.specs.declared.circuit.Circuit.{Circuit}
 use Rattle.join.specs.declared.component.Component.{Component}
@@ -10,20 +10,8 @@ use Rattle.join.specs.Exchange.{Exit}
 use Rattle.join.specs.Weights.{inner, outer}
 use Rattle.join.specs.Components.{crossings_in, path_in, Grown, Closed}
 use Rattle.join.specs.Circuits.{Closes, outside, Second, Lone}
-use Rattle.join.proofs.Stages.{cut_ends}
-use Rattle.join.proofs.Lone.{outside_free}
-
--- a street that the code found
-pub exit_is : (t : Town) (Z J : Set) (k x y : ℕ) → k < size t → J k ≡ true → cut t Z k ≡ true → x ≡ inner t Z k → y ≡ outer t Z k → Exit t Z J k x y
-exit_is t Z J k x y h own cuts ex ey =
-    let d = cut_ends t Z k cuts in
-    record {
-      below = h;
-      own = own;
-      side = subst (λ u. Side t k u y) (sym ex) (subst (λ u. Side t k (inner t Z k) u) (sym ey) d.0);
-      inside = ap Z ex ∙ d.1;
-      outside = ap Z ey ∙ d.2;
-    }
+use Rattle.join.proofs.Stages.{exit_is}
+use Rattle.join.proofs.Circuits.{outside_free}
 
 module _ (t : Town) (Z J B A : Set) (k y : ℕ) (d : Component) (ey : y ≡ outer t Z k) (eA : (i : ℕ) → i < size t → A i ≡ outside t Z J B i)
     (f : Grown t A d) (from : d.from ≡ y) (w : Closed t A d.marks (size t)) where

@@ -1,5 +1,5 @@
 -- What a set of streets costs, and how that changes with the set. Assumes nothing.
-use Rattle.std.proofs.Common.{◌≡◌, ℕ, zero, suc, ◌+◌, ◌-◌, ◌*◌, ◌<◌, ◌≤◌, Bool, true, false, ◌&&◌, eqb, ◌⊎◌, sym, refl, ap, ◌∙◌, inl, inr, ⊎_elim, arith}
+use Rattle.std.proofs.Common.{◌≡◌, ℕ, zero, suc, ◌+◌, ◌*◌, ◌<◌, ◌≤◌, Bool, true, false, ◌&&◌, eqb, ◌⊎◌, sym, refl, ap, ap₂, ◌∙◌, inl, inr, ⊎_elim, arith}
 use Rattle.std.proofs.lemmas.Bool.{eq-eqb, ne_eqb, both_ways, cases_Bool}
 use Rattle.road.specs.Roads.{Town, street}
 use Rattle.road.specs.Counts.{◌⊕◌, when, bit, odd, size, Set, cut}
@@ -8,17 +8,10 @@ use Rattle.road.proofs.Sums.{sum_ext, sum_add, sum_scale, sum_point, sum_none, s
 use Rattle.join.specs.Joins.{◌⊞◌, single, out, cost, outs, Zero, shorter}
 use Rattle.join.specs.Extra.{extra_length}
 
-when_zero : (b : Bool) → when b 0 ≡ 0
-when_zero true = refl
-when_zero false = refl
-
 -- sets that differ in streets of no length only cost the same
 pub cost_ext : (t : Town) (l : ℕ → ℕ) (J Q : Set) → ((k : ℕ) → k < size t → (l k ≡ 0) ⊎ (J k ≡ Q k)) → cost t l J ≡ cost t l Q
 unfolding cost
-cost_ext t l J Q h = sum_ext (size t) (λ k. when (J k) (l k)) (λ k. when (Q k) (l k)) (λ k i. ⊎_elim (free k) (λ e. ap (λ b. when b (l k)) e) (h k i))
-  where
-    free : (k : ℕ) → l k ≡ 0 → when (J k) (l k) ≡ when (Q k) (l k)
-    free k z = rw z (when_zero (J k) ∙ sym (when_zero (Q k)))
+cost_ext t l J Q h = sum_ext (size t) (λ k. when (J k) (l k)) (λ k. when (Q k) (l k)) (λ k i. let e = h k i in grind arith)
 
 -- streets of no length change no cost
 pub cost_zero : (t : Town) (l : ℕ → ℕ) (J Q : Set) → Zero t l Q → cost t l (J ⊞ Q) ≡ cost t l J
@@ -27,22 +20,14 @@ cost_zero t l J Q h = cost_ext t l (J ⊞ Q) J (λ k i. ⊎_elim (λ y. inl (h k
 -- where no street of a set has a length, it costs nothing
 pub cost_none : (t : Town) (l : ℕ → ℕ) (J : Set) → Zero t l J → cost t l J ≡ 0
 unfolding cost
-cost_none t l J h = sum_none (size t) (λ k. when (J k) (l k)) (λ k i. at (J k) (l k) (h k i))
-  where
-    at : (b : Bool) (n : ℕ) → (b ≡ true → n ≡ 0) → when b n ≡ 0
-    at true n h = h refl
-    at false n h = refl
+cost_none t l J h = sum_none (size t) (λ k. when (J k) (l k)) (λ k i. let z = h k i in grind arith)
 
 -- where streets cost twice their length, a set costs twice its length
 pub cost_double : (t : Town) (J : Set) → cost t (λ k. 2 * (street t k).long) J ≡ 2 * extra_length t J
 unfolding cost
 cost_double t J =
-    sum_ext (size t) (λ k. when (J k) (2 * (street t k).long)) (λ k. 2 * when (J k) (street t k).long) (λ k _. double (J k) (street t k).long)
+    sum_ext (size t) (λ k. when (J k) (2 * (street t k).long)) (λ k. 2 * when (J k) (street t k).long) (λ k _. grind arith)
     ∙ sum_scale (size t) 2 (λ k. when (J k) (street t k).long)
-  where
-    double : (b : Bool) (n : ℕ) → when b (2 * n) ≡ 2 * when b n
-    double true n = refl
-    double false n = refl
 
 -- another street is not touched
 single_other : (J : Set) (k j : ℕ) → (k ≡ j → ⊥) → (J ⊞ single k) j ≡ J j
@@ -61,22 +46,14 @@ cost_more t l J k h e =
     sum_point (size t) k (l k) (λ j. when ((J ⊞ single k) j) (l j)) (λ j. when (J j) (l j)) h
     (rw (e, eq-eqb k k refl) (omega arith)) (λ j _ ne. ap (λ b. when b (l j)) (single_other J k j ne))
 
--- at one street: what one set gains by it the other loses
-swap_at : (a b c : Bool) (n : ℕ) → (c ≡ true → (n ≡ 0) ⊎ (a ⊕ b ≡ true)) → when (a ⊕ c) n + when (b ⊕ c) n ≡ when a n + when b n
-swap_at a b false n h = rw (xor_false a, xor_false b)
-swap_at true false true n h = omega arith
-swap_at false true true n h = omega arith
-swap_at true true true n h = ⊎_elim (λ e. omega arith) (λ e. absurd (both_ways false refl e)) (h refl)
-swap_at false false true n h = ⊎_elim (λ e. omega arith) (λ e. absurd (both_ways false refl e)) (h refl)
-
--- and so over all streets of C
+-- what one set gains by a set of streets the other loses
 pub cost_swap : (t : Town) (l : ℕ → ℕ) (J B C : Set) → ((k : ℕ) → k < size t → C k ≡ true → (l k ≡ 0) ⊎ (J k ⊕ B k ≡ true)) →
     cost t l (J ⊞ C) + cost t l (B ⊞ C) ≡ cost t l J + cost t l B
 unfolding cost
 cost_swap t l J B C h =
     sym (sum_add (size t) (λ j. when (J j ⊕ C j) (l j)) (λ j. when (B j ⊕ C j) (l j)))
     ∙ sum_ext (size t) (λ j. when (J j ⊕ C j) (l j) + when (B j ⊕ C j) (l j)) (λ j. when (J j) (l j) + when (B j) (l j))
-    (λ j i. swap_at (J j) (B j) (C j) (l j) (h j i))
+    (λ j i. let s = h j i in grind (arith, s))
     ∙ sum_add (size t) (λ j. when (J j) (l j)) (λ j. when (B j) (l j))
 
 -- where lengths go by a colouring, the parity of a cost does
@@ -102,13 +79,19 @@ pub some_out : (t : Town) (Z J : Set) → 0 < outs t Z J → (k : ℕ) × (k < s
 unfolding cost
 some_out t Z J h =
     let s = sum_pos (size t) (λ k. when (J k) (bit (cut t Z k))) h in
-    let p = both (J s.0) (cut t Z s.0) s.2 in
-    (s.0, s.1, p.0, p.1)
-  where
-    both : (a b : Bool) → 0 < when a (bit b) → (a ≡ true) × (b ≡ true)
-    both true true h = (refl, refl)
-    both true false h = absurd (omega arith)
-    both false b h = absurd (omega arith)
+    let q : 0 < when (J s.0) (bit (cut t Z s.0)) = s.2 in
+    (s.0, s.1, grind arith, grind arith)
+
+-- where it is two or more there is another
+pub two_out : (t : Town) (Z J : Set) → 2 ≤ outs t Z J → (k : ℕ) × (i : ℕ) × (k ≡ i → ⊥) × ((k < size t) × (J k ≡ true) × (cut t Z k ≡ true)) × ((i < size t) × (J i ≡ true) × (cut t Z i ≡ true))
+two_out t Z J h =
+    let p = some_out t Z J (omega arith) in
+    let k = p.0 in
+    let q = some_out t Z (J ⊞ single k) (omega (arith, cost_drop t (λ k. bit (cut t Z k)) J k p.1 p.2, ap bit p.3)) in
+    let i = q.0 in
+    let gone : (J ⊞ single k) k ≡ false = ap₂ (λ p q. p ⊕ q) p.2 (eq-eqb k k refl) in
+    let ne = λ (e : k ≡ i). both_ways ((J ⊞ single k) k) gone (ap (J ⊞ single k) e ∙ q.2) in
+    (k, i, ne, (p.1, p.2, p.3), (q.1, sym (single_other J k i ne) ∙ q.2, q.3))
 
 -- two streets that are cut less
 pub outs_two : (t : Town) (Z J C : Set) (a b : ℕ) → a < size t → b < size t → (a ≡ b → ⊥) → J a ≡ true → cut t Z a ≡ true → J b ≡ true → cut t Z b ≡ true →
@@ -131,9 +114,4 @@ cost_short t l Z e J h =
     let out_k = λ (k : ℕ). when (J k) (bit (cut t Z k)) in
     ap (λ n. cost t (shorter t Z e l) J + n) (sym (sum_scale (size t) e out_k))
     ∙ sym (sum_add (size t) (λ k. when (J k) (shorter t Z e l k)) (λ k. e * out_k k))
-    ∙ sum_ext (size t) (λ k. when (J k) (shorter t Z e l k) + e * out_k k) (λ k. when (J k) (l k)) (λ k i. at (J k) (cut t Z k) (l k) (h k i))
-  where
-    at : (j x : Bool) (n : ℕ) → (x ≡ true → e ≤ n) → when j (n - when x e) + e * when j (bit x) ≡ when j n
-    at true true n h = omega (arith, h refl)
-    at true false n h = omega arith
-    at false x n h = omega arith
+    ∙ sum_ext (size t) (λ k. when (J k) (shorter t Z e l k) + e * out_k k) (λ k. when (J k) (l k)) (λ k i. let le = h k i in grind arith)

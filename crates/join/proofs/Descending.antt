@@ -22,9 +22,8 @@ use Rattle.join.proofs.Exchanging.{over_from}
 use Rattle.join.proofs.Restoring.{longer_shorter, higher_lower}
 
 -- the same stage at the same lengths and potentials
-pub staged_same : (q : Prices) (c : Classes) (l l' g g' : ℕ → ℕ) (s s' : Stage) → l' ≡ l → g' ≡ g → s' ≡ s → Staged q c l g s → Staged q c l' g' s'
-staged_same q c l l' g g' s s' el eg es st =
-    subst (λ z. Staged q c l' g' z) (sym es) (subst (λ n. Staged q c l' n s) (sym eg) (subst (λ n. Staged q c n g s) (sym el) st))
+pub staged_same : (q : Prices) (c : Classes) (l l' g g' : ℕ → ℕ) (s : Stage) → l' ≡ l → g' ≡ g → Staged q c l g s → Staged q c l' g' s
+staged_same q c l l' g g' s el eg st = rw (el, eg) st
 
 -- one stage more
 pub lengths_more : (t : roads.Town) (c : ℕ → ℕ) (ss : List Stage) (n : ℕ) → lengths_after t c ss (suc n) ≡ shorter t (class_at ss n) (charge_at ss n) (lengths_after t c ss n)
@@ -94,7 +93,7 @@ module _ (a : CutPacking) (i : ℕ) (h : i < length a.stages.now) (v : Level) (a
 
   -- its charge put back gives what was left before it
   back_lengths : longer t (marked s.marks) (amount s.charge) (lengths_at v) ≡ l
-  back_lengths = ap (longer t (marked s.marks) (amount s.charge)) lengths_last ∙ longer_shorter q.problem.town.now (marked s.marks) (amount s.charge) l staged.streets
+  back_lengths = ap (longer t (marked s.marks) (amount s.charge)) lengths_last ∙ longer_shorter q.problem.streets.town.now (marked s.marks) (amount s.charge) l staged.streets
 
   back_potentials : higher In (marked s.marks) (amount s.charge) (potential_at v) ≡ g
   back_potentials = ap (higher In (marked s.marks) (amount s.charge)) potentials_last ∙ higher_lower In (marked s.marks) (amount s.charge) g staged.crossings
@@ -102,7 +101,7 @@ module _ (a : CutPacking) (i : ℕ) (h : i < length a.stages.now) (v : Level) (a
   -- it fits
   pub back_fits : (k : ℕ) → k < size (town_in a.prices.now.problem) → cut (town_in a.prices.now.problem) (marked (get_or a.stages.now i x).marks) k ≡ true →
       lengths_at v k + amount (get_or a.stages.now i x).charge ≤ 4000000000
-  back_fits k j u = omega (arith, ap (λ f. f k) back_lengths, lengths_low t (costs_in q.problem) ss i k, q.problem.most k, ap (λ b. when b (amount s.charge)) u)
+  back_fits k j u = omega (arith, ap (λ f. f k) back_lengths, lengths_low t (costs_in q.problem) ss i k, q.problem.streets.most k, ap (λ b. when b (amount s.charge)) u)
 
   pub back_low : (u : ℕ) → reached_in a.prices.now.problem u ≡ true → marked (get_or a.stages.now i x).marks u ≡ false → potential_at v u + amount (get_or a.stages.now i x).charge ≤ 1200000000000
   back_low u r o = omega (
@@ -119,7 +118,7 @@ module _ (a : CutPacking) (i : ℕ) (h : i < length a.stages.now) (v : Level) (a
     undo_after = record { streets = el ∙ back_lengths; crossings = eg ∙ back_potentials }
 
     at_level : Staged q a.classes.now (lengths_at v') (potential_at v') s
-    at_level = staged_same q a.classes.now _ _ _ _ s s undo_after.streets undo_after.crossings refl staged
+    at_level = staged_same q a.classes.now _ _ _ _ s undo_after.streets undo_after.crossings staged
 
     -- the stage is as it was before its charge
     pub undo_held : Held a.prices.now v' a.classes.now (get_or a.stages.now i x)

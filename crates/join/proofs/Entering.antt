@@ -1,8 +1,7 @@
 -- All streets of a sound town, at twice their length. Assumes nothing.
-use Rattle.std.proofs.Common.{◌≡◌, ℕ, ◌<◌, ◌≤◌, Bool, true, false, ltb, List, length, is_some, Some, None, Option, sym, refl, ap, ◌∙◌, subst, ⊎_elim, arith}
+use Rattle.std.proofs.Common.{◌≡◌, ℕ, ◌<◌, ◌≤◌, true, false, ltb, List, length, is_some, Some, None, Option, sym, refl, ap, ◌∙◌, subst, ⊎_elim, arith}
 use Rattle.std.specs.Option.{option_map}
-use Rattle.std.proofs.lemmas.List.{get_or_past}
-use Rattle.std.proofs.lemmas.Bool.{cases_lt, cases_Bool, both_ways, lt-ltb, ltb-true}
+use Rattle.std.proofs.lemmas.Bool.{cases_lt, both_ways, lt-ltb, ltb-true, false_from_ne_true}
 use Rattle.road.specs.Roads as roads
 use Rattle.road.specs.Counts.{size, one, two, cut, all}
 use Rattle.road.specs.Reach.{reached}
@@ -51,7 +50,7 @@ come_two s k h =
 
 -- there is a way just to what can be come to
 pub way_come : (t : roads.Town) (r u : ℕ) (o : Option Way) → Shows t r u o → is_some o ≡ reached t r u
-way_come t r u None s = sym (⊎_elim (λ y. absurd (s.none.0 refl (reached_way t r u y).0 (reached_way t r u y).1)) (λ n. n) (cases_Bool (reached t r u)))
+way_come t r u None s = sym (false_from_ne_true (reached t r u) (λ y. s.none.0 refl (reached_way t r u y).0 (reached_way t r u y).1))
 way_come t r u (Some w) s = sym (drive_reached t r u _ (s.drives w refl).drive)
 
 pub way_some : (o : Option Way) → is_some o ≡ true → (w : Way) × (o ≡ Some w)
@@ -62,7 +61,7 @@ way_some (Some w) e = (w, refl)
 pub charge_small : (p : Problem) (q : Prices) (ss : List Stage) → q.problem ≡ p → ShowsLeast q ss → costs_in p ≡ double (town_in p) → (i : ℕ) → i < length ss → charge_at ss i ≤ 10000000
 charge_small p q ss same s e i h =
     let m = subst (λ p. (k : ℕ) × (k < size (town_in p)) × (charge_at ss i ≤ costs_in p k)) same (s.most i h) in
-    omega (arith, m.2, ap (λ c. c m.0) e, double_most p.town.now m.0)
+    omega (arith, m.2, ap (λ c. c m.0) e, double_most p.streets.town.now m.0)
 
 -- a test for a way, through what is lent
 pub some_lent : {A B : Type 0} (f : A → B) (o : Option A) → is_some (option_map f o) ≡ is_some o
@@ -71,18 +70,13 @@ some_lent f (Some x) = refl
 
 -- what is past the crossings is not come to
 pub come_past : (t : Town) (u : ℕ) → t.crossings ≤ u → reached (model t) t.depot u ≡ false
-come_past t u le = ⊎_elim (λ y. absurd (omega (arith, come_below t u y))) (λ n. n) (cases_Bool (reached (model t) t.depot u))
-
--- the marks of what can be come to
-pub come_marks : (t : Town) (ms : List Bool) → length ms ≡ 100 → ((u : ℕ) → u < 100 → marked ms u ≡ reached (model t) t.depot u) → (u : ℕ) → marked ms u ≡ reached (model t) t.depot u
-come_marks t ms long low u =
-    ⊎_elim (low u) (λ le. get_or_past ms u false (omega arith) ∙ sym (come_past t u (omega (arith, t.most)))) (cases_lt u 100)
+come_past t u le = false_from_ne_true (reached (model t) t.depot u) (λ y. omega (arith, come_below t u y))
 
 -- what is shown of a problem with all streets at twice their length
 pub certified_double : (p : Problem) (q : Prices) (ss : List Stage) → q.problem ≡ p → ShowsLeast q ss → costs_in p ≡ double (town_in p) → ((k : ℕ) → k < 300 → marked p.required.now k ≡ true) →
-    Certified (town_in p) all (double (town_in p)) p.town.now.depot (reached_in p) (price_in q) (extra_in q) ss
+    Certified (town_in p) all (double (town_in p)) p.streets.town.now.depot (reached_in p) (price_in q) (extra_in q) ss
 certified_double p q ss same s e h =
-    subst (λ c. Certified (town_in p) all c p.town.now.depot (reached_in p) (price_in q) (extra_in q) ss) e
-    (certified_all (town_in p) (marked p.required.now) (costs_in p) p.town.now.depot (reached_in p) (price_in q) (extra_in q) ss
-    (λ k i. h k (omega (arith, size_model p.town.now, p.town.now.few)))
-    (subst (λ p. Certified (town_in p) (marked p.required.now) (costs_in p) p.town.now.depot (reached_in p) (price_in q) (extra_in q) ss) same s.certified))
+    subst (λ c. Certified (town_in p) all c p.streets.town.now.depot (reached_in p) (price_in q) (extra_in q) ss) e
+    (certified_all (town_in p) (marked p.required.now) (costs_in p) p.streets.town.now.depot (reached_in p) (price_in q) (extra_in q) ss
+    (λ k i. h k (omega (arith, size_model p.streets.town.now, p.streets.town.now.few)))
+    (subst (λ p. Certified (town_in p) (marked p.required.now) (costs_in p) p.streets.town.now.depot (reached_in p) (price_in q) (extra_in q) ss) same s.certified))

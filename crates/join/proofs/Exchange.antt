@@ -1,15 +1,16 @@
 -- The exchange, as a program makes it at one stage. B is a set for b that costs g b; no set need be least. A circuit through two streets of J
 -- out of the class Z of b either shows that g is too high at a crossing outside, or makes J cheaper. Assumes nothing.
-use Rattle.std.proofs.Common.{◌≡◌, ℕ, ◌+◌, ◌*◌, ◌<◌, ◌≤◌, Bool, true, false, eqb, ◌⊎◌, sym, refl, ap, ◌∙◌, ap₂, inl, inr, ⊎_elim, arith}
-use Rattle.std.proofs.lemmas.Bool.{eqb-true, eq-eqb, ne_eqb, cases_Bool, both_ways, cases_lt}
+use Rattle.std.proofs.Common.{◌≡◌, ℕ, ◌+◌, ◌*◌, ◌<◌, ◌≤◌, Bool, true, false, not, eqb, ◌⊎◌, sym, refl, ap, ◌∙◌, ap₂, inl, inr, ⊎_elim, arith}
+use Rattle.std.proofs.lemmas.Bool.Decides.{nat_tests}
+use Rattle.std.proofs.lemmas.Bool.{cases_eq, eq-eqb, ne_eqb, both_ways, cases_lt, false_from_ne_true}
 use Rattle.road.specs.Roads.{Town}
-use Rattle.road.specs.Counts.{◌⊕◌, size, Set, cut}
-use Rattle.road.proofs.Parity.{xor_false, xor_same}
+use Rattle.road.specs.Counts.{◌⊕◌, odd, size, Set, cut}
+use Rattle.road.proofs.Parity.{xor_same}
 use Rattle.road.proofs.Cuts.{side_cut, side_turn}
 use Rattle.join.specs.Joins.{◌⊞◌, single, Joins, at, cost, outs, Zero, Long}
 use Rattle.join.specs.Exchange.{Exit, Stage, Circuit, circuit, go_out}
 use Rattle.join.proofs.Joins.{out_none, join_on, join_back, join_even, side_join}
-use Rattle.join.proofs.Cost.{cost_zero, cost_drop, cost_swap, outs_two}
+use Rattle.join.proofs.Cost.{cost_zero, cost_drop, cost_swap, outs_odd, outs_two}
 
 pub exit_cut : (t : Town) (Z J : Set) (k x y : ℕ) → Exit t Z J k x y → cut t Z k ≡ true
 exit_cut t Z J k x y d = side_cut t k x y Z d.side ∙ ap₂ (λ p q. p ⊕ q) d.inside d.outside
@@ -20,18 +21,9 @@ Outcome t T l g Z e B v J k y Q C =
     (Joins t T y (go_out B C Q k) × (cost t l (go_out B C Q k) < g y))
     ⊎ (Joins t T v (J ⊞ C) × (outs t Z (J ⊞ C) + 2 ≡ outs t Z J) × (cost t l (J ⊞ C) + 2 * e ≤ cost t l J))
 
--- of five tests whose exclusive or holds, one holds
-one_of : (P : Type 0) (a b c d e : Bool) → (((a ⊕ b) ⊕ c) ⊕ d) ⊕ e ≡ true →
-    (a ≡ true → P) → (b ≡ true → P) → (c ≡ true → P) → (d ≡ true → P) → (e ≡ true → P) → P
-one_of P true b c d e h pa pb pc pd pe = pa refl
-one_of P false true c d e h pa pb pc pd pe = pb refl
-one_of P false false true d e h pa pb pc pd pe = pc refl
-one_of P false false false true e h pa pb pc pd pe = pd refl
-one_of P false false false false e h pa pb pc pd pe = pe h
-
 -- streets of no length are not cut
 pub zero_uncut : (t : Town) (l : ℕ → ℕ) (Z Q : Set) → Long t l Z → Zero t l Q → (k : ℕ) → k < size t → cut t Z k ≡ true → Q k ≡ false
-zero_uncut t l Z Q long zero k h c = ⊎_elim (λ y. absurd (omega (arith, long k h c, zero k h y))) (λ n. n) (cases_Bool (Q k))
+zero_uncut t l Z Q long zero k h c = false_from_ne_true (Q k) (λ y. omega (arith, long k h c, zero k h y))
 
 -- a set J for b that has a street k out of Z leads on to the street's outer end, for less
 module _ (t : Town) (T : Set → Bool) (l : ℕ → ℕ) (b : ℕ) (Z J Q : Set) (k x y : ℕ)
@@ -48,6 +40,10 @@ module _ (t : Town) (T : Set → Bool) (l g : ℕ → ℕ) (b : ℕ) (Z : Set) (
   -- an odd number of the streets that T stands for lead out of Z
   pub border : Z b ≡ true → T Z ≡ true
   border base = xor_same (T Z) true (ap (λ z. T Z ⊕ z) (sym base) ∙ sym (s.joins Z) ∙ out_none t B Z s.clear)
+
+  -- so a set for v has an odd number of streets out of Z, or an even one, as v asks for
+  pub parity : Z b ≡ true → (v : ℕ) (J : Set) → Joins t T v J → odd (outs t Z J) ≡ not (Z v)
+  parity base v J hJ = outs_odd t Z J ∙ hJ Z ∙ ap (λ x. x ⊕ Z v) (border base)
 
   module _ (v : ℕ) (J : Set) (hJ : Joins t T v J) (p : Circuit t l b Z J B) where
     abbrev C : Set
@@ -72,11 +68,10 @@ module _ (t : Town) (T : Set → Bool) (l g : ℕ → ℕ) (b : ℕ) (Z : Set) (
     -- only k₁ and k₂ of it are cut
     at_border : (k : ℕ) → k < size t → cut t Z k ≡ true → C k ≡ eqb k p.k₁ ⊕ eqb k p.k₂
     at_border k h c =
-        five (p.Q₁ k) (eqb k p.k₁) (p.W k) (eqb k p.k₂) (p.Q₂ k) (zero_uncut t l Z p.Q₁ s.long p.zero₁ k h c)
-        (⊎_elim (λ y. absurd (both_ways (cut t Z k) (p.free k h y).1 c)) (λ n. n) (cases_Bool (p.W k))) (zero_uncut t l Z p.Q₂ s.long p.zero₂ k h c)
-      where
-        five : (a o w p d : Bool) → a ≡ false → w ≡ false → d ≡ false → (((a ⊕ o) ⊕ w) ⊕ p) ⊕ d ≡ o ⊕ p
-        five a o w p d ha hw hd = rw (ha, hw, hd, xor_false (o ⊕ false ⊕ p), xor_false o)
+        let q₁ = zero_uncut t l Z p.Q₁ s.long p.zero₁ k h c in
+        let w = false_from_ne_true (p.W k) (λ y. both_ways (cut t Z k) (p.free k h y).1 c) in
+        let q₂ = zero_uncut t l Z p.Q₂ s.long p.zero₂ k h c in
+        grind arith
 
     -- in a street out of Z the sets differ
     differ : (i k x y : ℕ) → Exit t Z J k x y → i ≡ k → J i ⊕ B i ≡ true
@@ -84,13 +79,15 @@ module _ (t : Town) (T : Set → Bool) (l g : ℕ → ℕ) (b : ℕ) (Z : Set) (
 
     -- each street of the circuit has no length, or is in just one of J and B
     swapped : (k : ℕ) → k < size t → C k ≡ true → (l k ≡ 0) ⊎ (J k ⊕ B k ≡ true)
-    swapped k h c =
-        one_of ((l k ≡ 0) ⊎ (J k ⊕ B k ≡ true)) (p.Q₁ k) (eqb k p.k₁) (p.W k) (eqb k p.k₂) (p.Q₂ k) c
-        (λ q. inl (p.zero₁ k h q))
-        (λ q. inr (differ k p.k₁ p.x₁ p.y₁ p.exit₁ (eqb-true k p.k₁ q)))
-        (λ q. inr (p.free k h q).0)
-        (λ q. inr (differ k p.k₂ p.x₂ p.y₂ p.exit₂ (eqb-true k p.k₂ q)))
-        (λ q. inl (p.zero₂ k h q))
+    swapped k h c = ⊎_elim inl
+        (λ ne. inr (
+        let q₁ = p.zero₁ k h in
+        let q₂ = p.zero₂ k h in
+        let w = p.free k h in
+        let d₁ = differ k p.k₁ p.x₁ p.y₁ p.exit₁ in
+        let d₂ = differ k p.k₂ p.x₂ p.y₂ p.exit₂ in
+        grind (arith, nat_tests)))
+        (cases_eq (l k) 0)
 
     -- round the circuit, B has k₁
     exit : Exit t Z (B ⊞ C) p.k₁ p.x₁ p.y₁

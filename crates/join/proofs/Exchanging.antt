@@ -2,8 +2,9 @@
 use Rattle.std.proofs.Common.{◌≡◌, ℕ, ◌+◌, ◌*◌, ◌<◌, ◌≤◌, Bool, true, false, not, ◌&&◌, sym, ap, ◌∙◌, subst, ap₂, ⊎_elim, mul_comm, mul-le-mul_left, mul-add, arith}
 use Rattle.std.proofs.lemmas.Bool.{cases_Bool}
 use Rattle.road.specs.Roads.{Town}
-use Rattle.road.specs.Counts.{when, bit, size, Set, cut, Side, forth, back}
+use Rattle.road.specs.Counts.{when, bit, size, Set, cut}
 use Rattle.road.specs.Model.{marked}
+use Rattle.road.proofs.Cuts.{side_turn}
 use Rattle.join.specs.declared.circuit.Circuit as code
 use Rattle.join.specs.Joins.{◌⊞◌, single, Joins, cost, outs, shorter}
 use Rattle.join.specs.Exchange.{Exit, Stage, Circuit, circuit, go_out}
@@ -14,6 +15,7 @@ use Rattle.join.specs.Circuits.{Closes}
 use Rattle.join.specs.Outcomes.{Inner, Over}
 use Rattle.join.proofs.Cost.{cost_short}
 use Rattle.join.proofs.Exchange.{exchange_out, exchange_round}
+use Rattle.join.proofs.Relaxing.{side_reached}
 
 module _ (t : Town) (T : Set → Bool) (l g : ℕ → ℕ) (b : ℕ) (Z : Set) (e : ℕ) (B : Set) (s : Stage t T l g b Z e B) (v : ℕ) (J : Set) (hJ : Joins t T v J) (way : ℕ → Set)
     (inn : Inner t l b Z way) (c : code.Circuit) (cl : Closes t Z J B c) (C O : Set)
@@ -75,11 +77,7 @@ over_cheaper t T In l g Z e v J o few = record { met = o.met; joins = o.joins; c
 
 -- the end of a street can be come to
 pub exit_reached : (p : Problem) (Z J : Set) (k x y : ℕ) → Exit (town_in p) Z J k x y → reached_in p y ≡ true
-exit_reached p Z J k x y d = at x y d.side
-  where
-    at : (x y : ℕ) → Side (town_in p) k x y → reached_in p y ≡ true
-    at x y forth = p.twos k d.below
-    at x y back = p.ones k d.below
+exit_reached p Z J k x y d = side_reached p k y x d.below (side_turn (town_in p) k x y d.side)
 
 -- what is cheaper after a charge is so before it, once it has no more streets out of Z than v asks for
 pub over_from : (t : Town) (T : Set → Bool) (In : Set) (l g : ℕ → ℕ) (Z : Set) (e v : ℕ) (J : Set) → ((k : ℕ) → k < size t → cut t Z k ≡ true → e ≤ l k) →

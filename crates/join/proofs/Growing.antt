@@ -1,30 +1,28 @@
 -- One more crossing is come to. Assumes nothing.
 use Rattle.std.proofs.Common.{◌≡◌, ℕ, ◌<◌, Bool, true, false, eqb, List, [], set, replicate, vec_items, sym, ap, ◌∙◌, subst, ⊎_elim, arith}
-use mathlib.Core.Path.{fun_ext}
-use Rattle.std.proofs.lemmas.List.{length-replicate, get_or-set_same, get_or-set_other, get_or-replicate, get_or_past}
-use Rattle.std.proofs.lemmas.Bool.{cases_eq, cases_lt, both_ways, eqb-true}
+use Rattle.std.proofs.lemmas.List.{length-replicate, get_or-set_same, get_or-set_other}
+use Rattle.std.proofs.lemmas.Bool.{cases_eq, both_ways, eqb-true}
 use Rattle.road.specs.Roads.{Town}
-use Rattle.road.specs.Counts.{◌⊕◌, size, Set, cut, Side}
+use Rattle.road.specs.Counts.{◌⊕◌, size, Set, cut}
 use Rattle.road.specs.Model.{marked}
 use Rattle.road.proofs.Parity.{xor_true}
 use Rattle.join.specs.declared.component.Component.{Component}
 use Rattle.join.specs.Joins.{◌⊞◌, single, Joins, at}
+use Rattle.join.specs.Exchange.{Exit}
 use Rattle.join.specs.Amounts.{row}
 use Rattle.join.specs.Weights.{inner, outer}
 use Rattle.join.specs.Components.{crossings_in, path_in, Grown}
 use Rattle.join.proofs.Joins.{join_on, join_none, side_join}
-use Rattle.join.proofs.Stages.{cut_ends}
+use Rattle.join.proofs.Stages.{exit_is}
+use Rattle.join.proofs.StreetSets.{marked_none}
 
 module _ (t : Town) (A : Set) (c : Component) (p : Grown t A c) (k : ℕ) (h : k < size t) (own : A k ≡ true) (cuts : cut t (crossings_in c) k ≡ true)
     (x y : ℕ) (ex : x ≡ inner t (crossings_in c) k) (ey : y ≡ outer t (crossings_in c) k) where
-  in_x : crossings_in c x ≡ true
-  in_x = ap (crossings_in c) ex ∙ (cut_ends t (crossings_in c) k cuts).1
+  exit : Exit t (crossings_in c) A k x y
+  exit = exit_is t (crossings_in c) A k x y h own cuts ex ey
 
   pub out_y : crossings_in c y ≡ false
-  out_y = ap (crossings_in c) ey ∙ (cut_ends t (crossings_in c) k cuts).2
-
-  side : Side t k x y
-  side = subst (λ u. Side t k u y) (sym ex) (subst (λ u. Side t k (inner t (crossings_in c) k) u) (sym ey) (cut_ends t (crossings_in c) k cuts).0)
+  out_y = exit.outside
 
   -- d has a crossing more, with its way
   pub grown_more : y < 100 → (J : List Bool) → marked J ≡ path_in c x ⊞ single k → (d : Component) →
@@ -51,13 +49,10 @@ module _ (t : Town) (A : Set) (c : Component) (p : Grown t A c) (k : ℕ) (h : k
       was v ne m = sym (marks_other v ne) ∙ m
 
       leads_here : (v : ℕ) → v ≡ y → Joins t (at c.from) v (path_in d v)
-      leads_here v q = rw (q, row_same) (join_on t (at c.from) x y (path_in c x) (single k) (p.leads x in_x) (side_join t k x y h side))
+      leads_here v q = rw (q, row_same) (join_on t (at c.from) x y (path_in c x) (single k) (p.leads x exit.inside) (side_join t k x y h exit.side))
 
       by_here : (j : ℕ) → path_in c x j ⊕ eqb j k ≡ true → A j ≡ true
-      by_here j o = ⊎_elim (p.by x j in_x) (λ q. ap A (eqb-true j k q) ∙ own) (xor_true (path_in c x j) (eqb j k) o)
-
-none_at : (n k : ℕ) → marked (replicate n false) k ≡ false
-none_at n k = ⊎_elim (λ lt. get_or-replicate n k false false lt) (λ le. get_or_past (replicate n false) k false (omega (arith, length-replicate n false))) (cases_lt k n)
+      by_here j o = ⊎_elim (p.by x j exit.inside) (λ q. ap A (eqb-true j k q) ∙ own) (xor_true (path_in c x j) (eqb j k) o)
 
 -- at first only the start is come to
 pub grown_start : (t : Town) (A : Set) (c d : Component) (J : List Bool) (s : ℕ) → s < 100 → J ≡ replicate 300 false →
@@ -69,10 +64,10 @@ grown_start t A c d J s h eJ ef em ep = record {
 }
   where
     row_none : path_in d s ≡ (λ _. false)
-    row_none = ap (λ rows. row rows s) ep ∙ ap marked (get_or-set_same (vec_items c.path) s J [] (omega (arith, c.rows)) ∙ eJ) ∙ fun_ext (none_at 300)
+    row_none = ap (λ rows. row rows s) ep ∙ ap marked (get_or-set_same (vec_items c.path) s J [] (omega (arith, c.rows)) ∙ eJ) ∙ marked_none 300
 
     is : (v : ℕ) → crossings_in d v ≡ true → v ≡ s
-    is v m = ⊎_elim (λ e. e) (λ ne. absurd (both_ways (crossings_in d v) (ap (λ xs. marked xs v) em ∙ get_or-set_other (replicate 100 false) s v true false ne ∙ none_at 100 v) m)) (cases_eq v s)
+    is v m = ⊎_elim (λ e. e) (λ ne. absurd (both_ways (crossings_in d v) (ap (λ xs. marked xs v) em ∙ get_or-set_other (replicate 100 false) s v true false ne ∙ ap (λ Z. Z v) (marked_none 100)) m)) (cases_eq v s)
 
     leads_at : (v : ℕ) → v ≡ s → Joins t (at s) v (path_in d v)
     leads_at v q = rw (q, row_none) (join_none t s)

@@ -1,20 +1,21 @@
 -- Joins: how they are put together, and the joins that streets and drives make. Assumes nothing.
-use Rattle.std.proofs.Common.{◌≡◌, ℕ, ◌+◌, ◌*◌, ◌<◌, Bool, true, false, ◌&&◌, eqb, List, sym, refl, ap, ◌∙◌, subst, ap₂, ⊎_elim}
-use mathlib.Core.Bool.{and-false}
-use Rattle.std.proofs.lemmas.Bool.{cases_Bool}
-use Rattle.road.specs.declared.leg.Leg.{Leg}
-use Rattle.road.specs.Roads.{Town, Drive, from, into}
+use Rattle.std.proofs.Common.{◌≡◌, ℕ, ◌*◌, ◌%◌, ◌<◌, Bool, true, false, ◌&&◌, sym, refl, ap, ◌∙◌, ap₂, arith}
+use Rattle.std.proofs.lemmas.Bool.{both_ways, false_from_ne_true}
+use Rattle.road.specs.Roads.{Town}
 use Rattle.road.specs.Counts.{bit, odd, ends, degree, ◌⊕◌, size, one, two, Set, cut, Side, forth, back}
-use Rattle.road.proofs.Parity.{odd_add, odd_mul, odd_bit, xor_self, xor_comm, xor_assoc, xor_swap, xor_cancel, xor_and, xor_twice}
+use Rattle.road.proofs.Parity.{odd_add, odd_mul, odd_bit, odd_mod, xor_self, xor_same, xor_comm, xor_assoc, xor_cancel, xor_twice}
 use Rattle.road.proofs.Sums.{odd_sum, par_ext, par_xor, par_none, par_only}
-use Rattle.road.proofs.Cuts.{leg_side}
 use Rattle.join.specs.Joins.{◌⊞◌, single, out, Joins, at, once}
+
+-- an even number
+pub odd_none : (n : ℕ) → n % 2 ≡ 0 → odd n ≡ false
+odd_none n e = false_from_ne_true (odd n) (λ o. omega (arith, odd_mod n, ap bit o))
 
 -- parities add up
 pub out_xor : (t : Town) (J Q Z : Set) → out t (J ⊞ Q) Z ≡ out t J Z ⊕ out t Q Z
 unfolding out
 out_xor t J Q Z =
-    par_ext (size t) (λ k. (J k ⊕ Q k) && cut t Z k) (λ k. (J k && cut t Z k) ⊕ (Q k && cut t Z k)) (λ k _. xor_and (J k) (Q k) (cut t Z k))
+    par_ext (size t) (λ k. (J k ⊕ Q k) && cut t Z k) (λ k. (J k && cut t Z k) ⊕ (Q k && cut t Z k)) (λ k _. grind arith)
     ∙ par_xor (size t) (λ k. J k && cut t Z k) (λ k. Q k && cut t Z k)
 
 -- only the streets below size t count
@@ -25,22 +26,24 @@ out_ext t J Q Z h = par_ext (size t) (λ k. J k && cut t Z k) (λ k. Q k && cut 
 -- a set with no cut street has an even number of them
 pub out_none : (t : Town) (J Z : Set) → ((k : ℕ) → k < size t → cut t Z k ≡ true → J k ≡ false) → out t J Z ≡ false
 unfolding out
-out_none t J Z h = par_none (size t) (λ k. J k && cut t Z k) none
-  where
-    none : (k : ℕ) → k < size t → (J k && cut t Z k) ≡ false
-    none k i = ⊎_elim (λ c. ap (λ a. a && cut t Z k) (h k i c)) (λ n. ap (λ a. J k && a) n ∙ and-false (J k)) (cases_Bool (cut t Z k))
+out_none t J Z h = par_none (size t) (λ k. J k && cut t Z k) (λ k i. let n = h k i in grind arith)
 
 -- a join goes on by a join
 pub join_on : (t : Town) (T : Set → Bool) (u v : ℕ) (J Q : Set) → Joins t T u J → Joins t (at u) v Q → Joins t T v (J ⊞ Q)
 join_on t T u v J Q hJ hQ Z =
     out_xor t J Q Z ∙ ap₂ (λ a b. a ⊕ b) (hJ Z) (hQ Z) ∙ xor_assoc (T Z) (Z u) (Z u ⊕ Z v) ∙ ap (λ x. T Z ⊕ x) (xor_cancel (Z u) (Z v))
 
+-- what is in both goes
+pub xor_meet : (a b c : Bool) → (a ⊕ b) ⊕ (a ⊕ c) ≡ b ⊕ c
+xor_meet a b c = grind arith
+
 -- two joins from one start lead from end to end
 pub join_between : (t : Town) (T : Set → Bool) (u v : ℕ) (J K : Set) → Joins t T u J → Joins t T v K → Joins t (at u) v (J ⊞ K)
-join_between t T u v J K hJ hK Z = out_xor t J K Z ∙ ap₂ (λ a b. a ⊕ b) (hJ Z) (hK Z) ∙ meet (T Z) (Z u) (Z v)
-  where
-    meet : (a b c : Bool) → (a ⊕ b) ⊕ (a ⊕ c) ≡ b ⊕ c
-    meet a b c = xor_assoc a b (a ⊕ c) ∙ ap (λ x. a ⊕ x) (xor_swap b a c) ∙ xor_cancel a (b ⊕ c)
+join_between t T u v J K hJ hK Z = out_xor t J K Z ∙ ap₂ (λ a b. a ⊕ b) (hJ Z) (hK Z) ∙ xor_meet (T Z) (Z u) (Z v)
+
+-- a set of crossings that cuts no street of a join has both of its ends, or neither
+pub join_uncut : (t : Town) (u v : ℕ) (Q Z : Set) → Joins t (at u) v Q → ((k : ℕ) → k < size t → Q k ≡ true → cut t Z k ≡ false) → Z u ≡ Z v
+join_uncut t u v Q Z j none = xor_same (Z u) (Z v) (sym (j Z) ∙ out_none t Q Z (λ k h c. false_from_ne_true (Q k) (λ q. both_ways (cut t Z k) (none k h q) c)))
 
 -- a join leads back
 pub join_back : (t : Town) (u v : ℕ) (Q : Set) → Joins t (at u) v Q → Joins t (at v) u Q
@@ -60,15 +63,6 @@ unfolding out
 side_join t k x y h forth Z = par_only (size t) (cut t Z) k h
 side_join t k x y h back Z = par_only (size t) (cut t Z) k h ∙ xor_comm (Z (one t k)) (Z (two t k))
 
--- the streets of a drive join its ends
-pub drive_join : (t : Town) (v w : ℕ) (ls : List Leg) → Drive t v ls w → (Q : Set) × Joins t (at v) w Q
-unfolding from into
-drive_join t v w ls (Drive.stay _) = (λ _. false, join_none t v)
-drive_join t v w ls (Drive.go _ _ l ls' h e d) =
-    let r = drive_join t (into t l) w ls' d in
-    let s = side_join t l.by (from t l) (into t l) h (leg_side t l.by l.back) in
-    (single l.by ⊞ r.0, join_on t (at v) (into t l) w (single l.by) r.0 (subst (λ x. Joins t (at x) (into t l) (single l.by)) e s) r.1)
-
 -- the streets of A once lead back to the start
 pub join_once : (t : Town) (A : Set) (r : ℕ) → Joins t (once t A r) r A
 join_once t A r Z = sym (xor_twice (out t A Z) (Z r))
@@ -79,7 +73,4 @@ unfolding out
 degree_odd t c v =
     odd_sum (size t) (λ k. c k * ends t k v)
     ∙ par_ext (size t) (λ k. odd (c k * ends t k v)) (λ k. odd (c k) && cut t (single v) k)
-    (λ k _. odd_mul (c k) (ends t k v) ∙ ap (λ z. odd (c k) && z) (at (eqb (one t k) v) (eqb (two t k) v)))
-  where
-    at : (a b : Bool) → odd (bit a + bit b) ≡ a ⊕ b
-    at a b = odd_add (bit a) (bit b) ∙ ap₂ (λ p q. p ⊕ q) (odd_bit a) (odd_bit b)
+    (λ k _. odd_mul (c k) (ends t k v) ∙ ap (λ z. odd (c k) && z) (simp (odd_add, odd_bit)))

@@ -1,7 +1,7 @@
 -- Labels of classes: two classes become one, or one more is spent, and the steps that are left fall. Assumes nothing.
 use Rattle.std.proofs.Common.{◌≡◌, ℕ, ◌+◌, ◌*◌, ◌<◌, ◌≤◌, Bool, true, false, not, ◌&&◌, ◌||◌, eqb, sym, refl, ap, ◌∙◌, ⊎_elim, arith}
-use mathlib.Core.Bool.{and-false, and-true}
-use Rattle.std.proofs.lemmas.Bool.{eqb-true, eqb-false, eq-eqb, ne_eqb, cases_eq, cases_Bool, both_ways, and_parts, or_cases, not-true}
+use Rattle.std.proofs.lemmas.Bool.Decides.{nat_tests}
+use Rattle.std.proofs.lemmas.Bool.{eqb-true, eqb-false, eq-eqb, ne_eqb, cases_eq, both_ways, and_parts, or_cases, not-true, false_from_ne_true}
 use Rattle.road.specs.Roads.{pick, Town}
 use Rattle.road.specs.Counts.{bit, size, Set, cut, Side, all}
 use Rattle.road.proofs.Parity.{bit_most}
@@ -40,25 +40,14 @@ spend a spent v = spent v || eqb v a
 
 -- at one crossing: the count of classes, and of classes that are not spent, after a merge
 fewer_at : (a o : Bool) → (o ≡ true → a ≡ true) → bit (a && not o) + bit o ≡ bit a
-fewer_at true true h = refl
-fewer_at true false h = refl
-fewer_at false true h = absurd (both_ways false refl (h refl))
-fewer_at false false h = refl
+fewer_at a o h = grind arith
 
 unspent_at : (r s x o : Bool) → bit ((r && not o) && not (s && (not x && not o))) ≤ bit (r && not s) + bit x
-unspent_at false s x o = omega arith
-unspent_at true s x true = omega arith
-unspent_at true true true false = omega arith
-unspent_at true false true false = omega arith
-unspent_at true true false false = omega arith
-unspent_at true false false false = omega arith
+unspent_at r s x o = grind arith
 
 -- and after one class more is spent
 spend_at : (r s o : Bool) → (o ≡ true → (r ≡ true) × (s ≡ false)) → bit (r && not (s || o)) + bit o ≡ bit (r && not s)
-spend_at r s true h = rw ((h refl).0, (h refl).1)
-spend_at true true false h = refl
-spend_at true false false h = refl
-spend_at false s false h = refl
+spend_at r s o h = grind arith
 
 -- the label b became a
 module _ (n a b : ℕ) (cls new : ℕ → ℕ) (is : (v : ℕ) → v < n → new v ≡ pick (eqb (cls v) b) a (cls v)) where
@@ -79,19 +68,7 @@ module _ (n : ℕ) (cls new : ℕ → ℕ) (lb : Labels n cls) (x y : ℕ) (hx :
 
   -- the classes are the same but for one
   same : (v : ℕ) → v < n → eqb (new v) v ≡ (eqb (cls v) v && not (eqb v (cls y)))
-  same v h = ⊎_elim here elsewhere (cases_eq v (cls y))
-    where
-      here : v ≡ cls y → eqb (new v) v ≡ (eqb (cls v) v && not (eqb v (cls y)))
-      here q =
-          ne_eqb (new v) v (λ d. apart (sym (hit v h (ap cls q ∙ lb.own y hy)) ∙ d ∙ q))
-          ∙ sym (ap (λ z. eqb (cls v) v && not z) (eq-eqb v (cls y) q) ∙ and-false (eqb (cls v) v))
-
-      elsewhere : (v ≡ cls y → ⊥) → eqb (new v) v ≡ (eqb (cls v) v && not (eqb v (cls y)))
-      elsewhere q = ⊎_elim
-          (λ d. ne_eqb (new v) v (λ g. apart (sym (lb.own x hx) ∙ ap cls (sym (hit v h d) ∙ g) ∙ d))
-          ∙ sym (ap (λ z. z && not (eqb v (cls y))) (ne_eqb (cls v) v (λ g. q (sym g ∙ d)))))
-          (λ d. ap (λ z. eqb z v) (miss v h d) ∙ sym (ap (λ z. eqb (cls v) v && not z) (ne_eqb v (cls y) q) ∙ and-true (eqb (cls v) v)))
-          (cases_eq (cls v) (cls y))
+  same v h = let own_x = lb.own x hx in let own_y = lb.own y hy in let e = hit v h in let ne = miss v h in grind (arith, nat_tests)
 
   -- there is one class less
   pub merge_falls : (spent : Set) → steps_left n new (unspend (cls x) (cls y) spent) < steps_left n cls spent
@@ -115,7 +92,7 @@ module _ (n : ℕ) (cls new : ℕ → ℕ) (lb : Labels n cls) (x y : ℕ) (hx :
   merge_labels = record { small = small; own = own }
     where
       small : (v : ℕ) → v < n → new v < n
-      small v h = ⊎_elim (λ e. rw (hit v h e) (lb.small x hx)) (λ e. rw (miss v h e) (lb.small v h)) (cases_eq (cls v) (cls y))
+      small v h = let e = hit v h in let ne = miss v h in let x_small = lb.small x hx in let v_small = lb.small v h in grind arith
 
       own : (v : ℕ) → v < n → new (new v) ≡ new v
       own v h = ⊎_elim
@@ -155,7 +132,7 @@ module _ (t : Town) (n : ℕ) (within : (k x y : ℕ) → k < size t → Side t 
 
   -- so it is not spent
   unspent : spent (cls b) ≡ false
-  unspent = ⊎_elim (λ s. absurd (no_way (shown (cls b) s))) (λ n. n) (cases_Bool (spent (cls b)))
+  unspent = false_from_ne_true (spent (cls b)) (λ s. no_way (shown (cls b) s))
     where
       no_way : Spent t l f cls (cls b) → ⊥
       no_way d =

@@ -1,7 +1,7 @@
 -- It is enough to look at single crossings: parities that add up over the crossings of a set. Assumes nothing.
-use Rattle.std.proofs.Common.{◌≡◌, ℕ, zero, suc, ◌<◌, Bool, true, false, ◌&&◌, eqb, sym, ap, ◌∙◌, ap₂, ⊎_elim, arith}
-use mathlib.Core.Bool.{and-false, and-true}
-use Rattle.std.proofs.lemmas.Bool.{eq-eqb, ne_eqb, cases_eq}
+use Rattle.std.proofs.Common.{◌≡◌, ℕ, zero, suc, ◌<◌, Bool, true, false, ◌&&◌, eqb, sym, ap, ◌∙◌, ap₂, arith}
+use mathlib.Core.Bool.{and-false}
+use Rattle.std.proofs.lemmas.Bool.Decides.{nat_tests}
 use Rattle.road.specs.Roads.{Town}
 use Rattle.road.specs.Counts.{◌⊕◌, par, size, one, two, Set, cut}
 use Rattle.road.proofs.Parity.{and_xor}
@@ -13,19 +13,9 @@ use Rattle.join.specs.Extra.{Inside}
 abbrev pub Linear : ℕ → (Set → Bool) → Type 0
 Linear n F = (Z : Set) → F Z ≡ par n (λ v. Z v && F (single v))
 
-and_comm : (a b : Bool) → (a && b) ≡ (b && a)
-and_comm true b = sym (and-true b)
-and_comm false b = sym (and-false b)
-
-eqb_comm : (a b : ℕ) → eqb a b ≡ eqb b a
-eqb_comm a b = ⊎_elim (λ e. eq-eqb a b e ∙ sym (eq-eqb b a (sym e))) (λ ne. ne_eqb a b ne ∙ sym (ne_eqb b a (λ q. ne (sym q)))) (cases_eq a b)
-
 -- membership and sums are so
 pub linear_at : (n x : ℕ) → x < n → Linear n (λ Z. Z x)
-linear_at n x h Z = sym (par_ext n (λ v. Z v && eqb x v) (λ v. eqb v x && Z v) at ∙ par_only n Z x h)
-  where
-    at : (v : ℕ) → v < n → (Z v && eqb x v) ≡ (eqb v x && Z v)
-    at v _ = and_comm (Z v) (eqb x v) ∙ ap (λ z. z && Z v) (eqb_comm x v)
+linear_at n x h Z = sym (par_ext n (λ v. Z v && eqb x v) (λ v. eqb v x && Z v) (λ v _. grind (arith, nat_tests)) ∙ par_only n Z x h)
 
 pub linear_xor : (n : ℕ) (F G : Set → Bool) → Linear n F → Linear n G → Linear n (λ Z. F Z ⊕ G Z)
 linear_xor n F G p q Z = ap₂ (λ a b. a ⊕ b) (p Z) (q Z) ∙ sym (apart ∙ par_xor n (λ v. Z v && F (single v)) (λ v. Z v && G (single v)))

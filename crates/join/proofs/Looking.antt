@@ -1,6 +1,5 @@
 -- What a turn of a pass finds. Assumes nothing.
-use Rattle.std.proofs.Common.{◌≡◌, ℕ, ◌<◌, ◌≤◌, Bool, true, false, sym, refl, ap, ◌∙◌, subst, ap₂, arith}
-use Rattle.std.proofs.lemmas.Bool.{both_ways}
+use Rattle.std.proofs.Common.{◌≡◌, ℕ, ◌<◌, ◌≤◌, Bool, true, false, sym, ap, ◌∙◌, subst, ap₂, arith}
 use Rattle.road.specs.Roads.{Town}
 use Rattle.road.specs.Counts.{size, one, two, Set, cut, Side, forth}
 use Rattle.road.proofs.Models.{size_model}
@@ -9,7 +8,6 @@ use Rattle.join.specs.declared.level.Level.{Level}
 use Rattle.join.specs.declared.partition.Classes.{Classes}
 use Rattle.join.specs.declared.prices.Prices.{Prices}
 use Rattle.join.specs.Joins.{◌⊞◌, single, cost, Zero, Class, Room}
-use Rattle.join.specs.Exchange.{Exit}
 use Rattle.join.specs.Weights.{inner, outer}
 use Rattle.join.specs.Problems.{town_in, start_in, reached_in}
 use Rattle.join.specs.Prices.{extra_in}
@@ -20,13 +18,8 @@ use Rattle.join.proofs.StreetSets.{ends_below}
 use Rattle.join.proofs.Uniting.{class_is, class_way}
 use Rattle.join.proofs.Stages as stages
 
--- where each street that is cut is not among all, none is cut
-pub none_cut : (all : Bool) (c : Bool) → all ≡ true → (c ≡ true → all ≡ false) → c ≡ false
-none_cut all true e h = absurd (both_ways all (h refl) e)
-none_cut all false e h = refl
-
 module _ (q : Prices) (v : Level) (c : Classes) (b : ℕ) (s : Pass q v) (cs : Classed (town_in q.problem) (lengths_at v) c)
-    (m : Merged (town_in q.problem) (lengths_at v) c q.problem.town.now.count) (low : Lowest (reached_in q.problem) (potential_at v) b) (hb : b < 100) where
+    (m : Merged (town_in q.problem) (lengths_at v) c q.problem.streets.town.now.count) (low : Lowest (reached_in q.problem) (potential_at v) b) (hb : b < 100) where
   abbrev t : Town
   t = town_in q.problem
 
@@ -46,13 +39,13 @@ module _ (q : Prices) (v : Level) (c : Classes) (b : ℕ) (s : Pass q v) (cs : C
   K = extra_in q
 
   the_class : Class t l b (class_in c b)
-  the_class = class_is t l c b (ends_below q.problem.town.now) cs (λ k h. m k (omega (arith, size_model q.problem.town.now))) hb
+  the_class = class_is t l c b (ends_below q.problem.streets.town.now) cs (λ k h. m k (omega (arith, size_model q.problem.streets.town.now))) hb
 
-  inside : (k : ℕ) → k < q.problem.town.now.count → k < size t
-  inside k h = omega (arith, size_model q.problem.town.now)
+  inside : (k : ℕ) → k < q.problem.streets.town.now.count → k < size t
+  inside k h = omega (arith, size_model q.problem.streets.town.now)
 
   -- no street leads out, and the set for b has a street with a length
-  pub inside_better : ((k : ℕ) → k < size (town_in q.problem) → cut (town_in q.problem) (class_in c b) k ≡ false) → (k x y : ℕ) → k < q.problem.town.now.count → extra_in q b k ≡ true → 0 < lengths_at v k →
+  pub inside_better : ((k : ℕ) → k < size (town_in q.problem) → cut (town_in q.problem) (class_in c b) k ≡ false) → (k x y : ℕ) → k < q.problem.streets.town.now.count → extra_in q b k ≡ true → 0 < lengths_at v k →
       x ≡ one (town_in q.problem) k → y ≡ two (town_in q.problem) k → (H R J : Set) → H ≡ (extra_in q b ⊞ (way_in c b ⊞ way_in c x)) ⊞ single k → R ≡ way_in c b ⊞ way_in c y → J ≡ H ⊞ R →
       Cheaper (town_in q.problem) (start_in q.problem) (reached_in q.problem) (lengths_at v) (potential_at v) b J
   inside_better none k x y h own pos ex ey H R J eH eR eJ =
@@ -82,14 +75,11 @@ module _ (q : Prices) (v : Level) (c : Classes) (b : ℕ) (s : Pass q v) (cs : C
     class_Z = subst (Class t l b) (sym eZ) the_class
 
     -- the set for b has a street out
-    pub look_better : (k x y : ℕ) → (k < q.problem.town.now.count) × (extra_in q b k ≡ true) × (cut (town_in q.problem) Z k ≡ true) → x ≡ inner (town_in q.problem) Z k → y ≡ outer (town_in q.problem) Z k →
+    pub look_better : (k x y : ℕ) → (k < q.problem.streets.town.now.count) × (extra_in q b k ≡ true) × (cut (town_in q.problem) Z k ≡ true) → x ≡ inner (town_in q.problem) Z k → y ≡ outer (town_in q.problem) Z k →
         (J : Set) → J ≡ (extra_in q b ⊞ (way_in c b ⊞ way_in c x)) ⊞ single k → Cheaper (town_in q.problem) (start_in q.problem) (reached_in q.problem) (lengths_at v) (potential_at v) y J
     look_better k x y d ex ey J eJ =
-        let e = stages.cut_ends t Z k d.2 in
-        let sd : Side t k x y = subst (λ u. Side t k u y) (sym ex) (subst (λ u. Side t k (inner t Z k) u) (sym ey) e.0) in
-        let in_x : Z x ≡ true = ap Z ex ∙ e.1 in
-        let w = class_way t l c b x cs hb (sym (ap (λ f. f x) eZ) ∙ in_x) in
-        let dr : Exit t Z (K b) k x y = record { below = inside k d.0; own = d.1; side = sd; inside = in_x; outside = ap Z ey ∙ e.2 } in
+        let dr = stages.exit_is t Z (K b) k x y (inside k d.0) d.1 d.2 ex ey in
+        let w = class_way t l c b x cs hb (sym (ap (λ f. f x) eZ) ∙ dr.inside) in
         subst (Cheaper t T In l g y) (sym eJ)
         (stages.better_over t T In l g K s.level b Z class_Z low k x y (way_in c b ⊞ way_in c x) dr w.0 w.1)
 
@@ -99,11 +89,11 @@ module _ (q : Prices) (v : Level) (c : Classes) (b : ℕ) (s : Pass q v) (cs : C
 
     -- the class is charged
     pub look_charge : (k : ℕ) → potential_at v b ≤ cost (town_in q.problem) (lengths_at v) (extra_in q b) → ((j : ℕ) → j < size (town_in q.problem) → cut (town_in q.problem) Z j ≡ true → extra_in q b j ≡ false) →
-        Tightest (town_in q.problem) (lengths_at v) (potential_at v) b Z q.problem.town.now.count k → 1 ≤ slack (town_in q.problem) (lengths_at v) (potential_at v) b Z k →
+        Tightest (town_in q.problem) (lengths_at v) (potential_at v) b Z q.problem.streets.town.now.count k → 1 ≤ slack (town_in q.problem) (lengths_at v) (potential_at v) b Z k →
         Charged (town_in q.problem) (start_in q.problem) (reached_in q.problem) (lengths_at v) (potential_at v) (extra_in q) Z (slack (town_in q.problem) (lengths_at v) (potential_at v) b Z k) b
     look_charge k high clear tight some = record {
       stage = stages.stage t T In l g K s.level b Z class_Z low (slack t l g b Z k) high
-          (stages.room_of t l g b Z (slack t l g b Z k) look_room (λ j h u. tight.least j (omega (arith, size_model q.problem.town.now)) u)) clear;
+          (stages.room_of t l g b Z (slack t l g b Z k) look_room (λ j h u. tight.least j (omega (arith, size_model q.problem.streets.town.now)) u)) clear;
       class = class_Z;
       lowest = low;
       some = some;

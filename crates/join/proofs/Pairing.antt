@@ -3,7 +3,8 @@ use Rattle.std.proofs.Common.{◌≡◌, ℕ, zero, suc, ◌+◌, ◌*◌, ◌%�
 use mathlib.Core.Path.{fun_ext}
 use mathlib.Core.Bool.{and-false}
 use Rattle.std.proofs.lemmas.List.{take_more}
-use Rattle.std.proofs.lemmas.Bool.{both_ways, cases_eq, cases_Bool, eq-eqb, ne_eqb}
+use Rattle.std.proofs.lemmas.Bool.Decides.{nat_tests}
+use Rattle.std.proofs.lemmas.Bool.{both_ways, cases_eq, eq-eqb, ne_eqb, false_from_ne_true}
 use Rattle.road.specs.declared.leg.Leg.{Leg}
 use Rattle.road.specs.Roads.{Town, Drive, stay, go, times}
 use Rattle.road.specs.Counts.{◌⊕◌, bit, odd, size, Set, cut}
@@ -12,7 +13,7 @@ use Rattle.road.specs.declared.town.Town as town
 use Rattle.road.specs.Limits.{Within}
 use Rattle.road.specs.Model.{model, marked}
 use Rattle.road.specs.Laws.{no_leg}
-use Rattle.road.proofs.Parity.{xor_false, xor_assoc, xor_twice, odd_add, odd_mul, odd_bit, odd_mod}
+use Rattle.road.proofs.Parity.{xor_false, xor_same, xor_assoc, xor_twice, odd_add, odd_mul, odd_bit}
 use Rattle.road.proofs.Sums.{sum_point, par_ext, par_none, par_only, odd_sum}
 use Rattle.road.proofs.Drives.{along, along_sum, drive_cut, times_append, times_first, times_other}
 use Rattle.road.proofs.Models.{size_model, street_model}
@@ -23,7 +24,7 @@ use Rattle.ways.specs.Shown.{distance_of, Shows}
 use Rattle.join.specs.Joins.{◌⊞◌, single, out, Joins, at, once}
 use Rattle.join.specs.Odd.{odd_at, odds, streets_of, Low}
 use Rattle.join.specs.Extra.{Inside}
-use Rattle.join.proofs.Joins.{out_xor, out_none, join_on}
+use Rattle.join.proofs.Joins.{odd_none, out_xor, out_none, join_on}
 use Rattle.join.proofs.Linear.{linear_out}
 
 -- the streets of no leg, and of one leg more
@@ -51,17 +52,9 @@ drive_streets t v w ls d Z =
     ∙ ends (along (λ k. bit (cut t Z k)) ls) (Z v) (Z w) (drive_cut t Z d)
   where
     ends : (n : ℕ) (a b : Bool) → (n + bit a + bit b) % 2 ≡ 0 → odd n ≡ a ⊕ b
-    ends n a b e = by_bits (odd n) a b (odd_mod n) e
-      where
-        by_bits : (o a b : Bool) → n % 2 ≡ bit o → (n + bit a + bit b) % 2 ≡ 0 → o ≡ a ⊕ b
-        by_bits true true true p q = absurd (omega arith)
-        by_bits true true false p q = refl
-        by_bits true false true p q = refl
-        by_bits true false false p q = absurd (omega arith)
-        by_bits false true true p q = refl
-        by_bits false true false p q = absurd (omega arith)
-        by_bits false false true p q = absurd (omega arith)
-        by_bits false false false p q = refl
+    ends n a b e =
+        let s : odd (n + bit a + bit b) ≡ odd n ⊕ (a ⊕ b) = simp (odd_add, odd_bit, xor_assoc) in
+        xor_same (odd n) (a ⊕ b) (sym s ∙ odd_none (n + bit a + bit b) e)
 
 -- the legs of a drive are of streets of the town
 pub drive_below : (t : Town) {v w : ℕ} {ls : List Leg} → Drive t v ls w → (i : ℕ) → i < length ls → (get_or ls i no_leg).by < size t
@@ -91,26 +84,12 @@ module _ (t : Town) (K Q : Set) (v w : ℕ) (q : Joins t (at v) w Q) where
 -- an odd crossing can come to another
 pub odd_other : (t : Town) (K : Set) → Inside t → (v : ℕ) → v < t.crossings → odd_at t K v ≡ true →
     ((w : ℕ) → w < t.crossings → (w ≡ v → ⊥) → odd_at t K w ≡ true → reached t v w ≡ false) → ⊥
-odd_other t K inside v h ov none = both_ways (out t K Z) uncut (linear_out t K inside Z ∙ par_ext n (λ u. Z u && odd_at t K u) (λ u. eqb u v && odd_at t K u) only ∙ par_only n (odd_at t K) v h ∙ ov)
+odd_other t K inside v h ov none =
+    both_ways (out t K (reached t v)) (out_none t K (reached t v) (λ k i c. absurd (both_ways (cut t (reached t v) k) (reached_closed t v k i) c)))
+    (linear_out t K inside (reached t v) ∙ par_ext t.crossings (λ u. reached t v u && odd_at t K u) (λ u. eqb u v && odd_at t K u) only ∙ par_only t.crossings (odd_at t K) v h ∙ ov)
   where
-    n : ℕ
-    n = t.crossings
-
-    Z : Set
-    Z = reached t v
-
-    uncut : out t K Z ≡ false
-    uncut = out_none t K Z (λ k i c. absurd (both_ways (cut t Z k) (reached_closed t v k i) c))
-
-    other : (u : ℕ) → u < n → (u ≡ v → ⊥) → (o : Bool) → odd_at t K u ≡ o → (Z u && o) ≡ (false && o)
-    other u i ne true e = ap (λ z. z && true) (none u i ne e)
-    other u i ne false e = and-false (Z u)
-
-    only : (u : ℕ) → u < n → (Z u && odd_at t K u) ≡ (eqb u v && odd_at t K u)
-    only u i = ⊎_elim
-        (λ e. ap (λ z. z && odd_at t K u) (ap (reached t v) e ∙ reached_start t v ∙ sym (eq-eqb u v e)))
-        (λ ne. other u i ne (odd_at t K u) refl ∙ ap (λ z. z && odd_at t K u) (sym (ne_eqb u v ne)))
-        (cases_eq u v)
+    only : (u : ℕ) → u < t.crossings → (reached t v u && odd_at t K u) ≡ (eqb u v && odd_at t K u)
+    only u i = let s = reached_start t v in let n = none u i in grind (arith, nat_tests)
 
 -- a set with no odd crossing leads out of each set of crossings an even number of times
 pub all_even : (t : Town) (K : Set) → Inside t → ((v : ℕ) → v < t.crossings → odd_at t K v ≡ false) → (Z : Set) → out t K Z ≡ false
@@ -145,7 +124,7 @@ inside_model t k h =
 
 -- where there is no drive, nothing is come to
 pub apart_unreached : (t : Town) (v w : ℕ) → Apart t v w → reached t v w ≡ false
-apart_unreached t v w apart = ⊎_elim (λ r. let d = reached_way t v w r in absurd (apart d.0 d.1)) (λ n. n) (cases_Bool (reached t v w))
+apart_unreached t v w apart = false_from_ne_true (reached t v w) (λ r. let d = reached_way t v w r in apart d.0 d.1)
 
 -- a way between two odd crossings makes fewer of them
 module _ (t : Town) (K : Set) (v w : ℕ) (legs : List Leg) (o : Option Way) (way : Way) (is : legs ≡ vec_items way.legs) (found : Some way ≡ o) (shows : Shows t v w o) where

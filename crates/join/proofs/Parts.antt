@@ -39,11 +39,7 @@ parts_are P n r (s ∷ ss) h j l = at (marked s.marks r) (λ e. h 0 (omega arith
 -- they are no more than the stages
 pub parts_few : (n r : ℕ) (ss : List Stage) → length (sheet_of n r ss) ≤ length ss
 parts_few n r [] = omega arith
-parts_few n r (s ∷ ss) = at (marked s.marks r) (parts_few n r ss)
-  where
-    at : (b : Bool) → length (sheet_of n r ss) ≤ length ss → length (pick b (sheet_of n r ss) (part_of n s ∷ sheet_of n r ss)) ≤ suc (length ss)
-    at true h = omega arith
-    at false h = omega arith
+parts_few n r (s ∷ ss) = let few = parts_few n r ss in grind arith
 
 -- and weigh what the depot is charged
 pub parts_weigh : (n r : ℕ) (ss : List Stage) → weights (sheet_of n r ss) ≡ crossing_charge ss (length ss) r

@@ -1,7 +1,7 @@
 -- Turn by turn: what a pass keeps. Assumes nothing.
-use Rattle.std.proofs.Common.{◌≡◌, ℕ, zero, suc, ◌+◌, ◌<◌, ◌≤◌, true, eqb, ltb, List, [], ◌∷◌, ◌++◌, length, get_or, sym, refl, ap, ◌∙◌, subst, ap₂, ⊎_elim, add-zero, add-one, arith}
+use Rattle.std.proofs.Common.{◌≡◌, ℕ, zero, suc, ◌+◌, ◌<◌, ◌≤◌, true, eqb, ltb, List, [], ◌∷◌, ◌++◌, length, get_or, sym, refl, ap, ◌∙◌, subst, ap₂, add-zero, add-one, arith}
 use Rattle.std.proofs.lemmas.List.{get_or_append_left, get_or_push, length_push}
-use Rattle.std.proofs.lemmas.Bool.{cases_eq, and_parts, ltb-true, eqb-true}
+use Rattle.std.proofs.lemmas.Bool.{and_parts, ltb-true, eqb-true}
 use Rattle.road.specs.Roads as roads
 use Rattle.road.specs.Counts.{size, Set, cut}
 use Rattle.road.specs.Model.{marked}
@@ -14,21 +14,15 @@ use Rattle.join.specs.Amounts.{amount}
 use Rattle.join.specs.Problems.{town_in, costs_in, start_in, reached_in}
 use Rattle.join.specs.Prices.{extra_in, price_in}
 use Rattle.join.specs.Classes.{label_in, class_in, Classed, Kept}
-use Rattle.join.specs.Potentials.{Cheaper, lower}
+use Rattle.join.specs.Potentials.{lower}
 use Rattle.join.specs.Turns.{lengths_at, potential_at, Pass, Charged}
-use Rattle.join.specs.Certified.{no_stage, class_at}
+use Rattle.join.specs.Certified.{no_stage}
 use Rattle.join.specs.Progress.{Progress}
 use Rattle.join.specs.Passes.{lengths_after, potentials_after, After, Staged, AllStaged, Run}
 use Rattle.join.proofs.Uniting.{class_way}
 use Rattle.join.proofs.Charging.{streets_bear, crossings_bear}
 use Rattle.join.proofs.Descending.{lengths_more, potentials_more, staged_same}
-
--- a set that is cheaper stays so where lengths and potentials do
-pub cheaper_same : (q : Prices) (v v' : Level) → lengths_at v' ≡ lengths_at v → potential_at v' ≡ potential_at v → (u : ℕ) (J : Set) →
-    Cheaper (town_in q.problem) (start_in q.problem) (reached_in q.problem) (lengths_at v) (potential_at v) u J → Cheaper (town_in q.problem) (start_in q.problem) (reached_in q.problem) (lengths_at v') (potential_at v') u J
-cheaper_same q v v' el eg u J c =
-    subst (λ l. Cheaper (town_in q.problem) (start_in q.problem) (reached_in q.problem) l (potential_at v') u J) (sym el)
-    (subst (λ g. Cheaper (town_in q.problem) (start_in q.problem) (reached_in q.problem) (lengths_at v) g u J) (sym eg) c)
+use Rattle.join.proofs.Writing.{each_push}
 
 -- a stage stays so while classes are merged
 pub staged_kept : (q : Prices) (c c' : Classes) (l g : ℕ → ℕ) (s : Stage) → Kept c c' → Staged q c l g s → Staged q c' l g s
@@ -101,17 +95,13 @@ module _ (q : Prices) (c c' : Classes) (ss : List Stage) (v v' : Level) (r : Run
     pass = pass;
     classed = classed;
     staged = staged;
-    cuts = λ i h. ⊎_elim (λ e. subst Out (sym e) (subst (λ z. (k : ℕ) × (k < size (town_in q.problem)) × (cut (town_in q.problem) (marked z.marks) k ≡ true)) (sym here) out))
-        (λ ne. let lt : i < length ss = omega (arith, long) in subst (λ z. (k : ℕ) × (k < size (town_in q.problem)) × (cut (town_in q.problem) (marked z.marks) k ≡ true)) (sym (stage_before ss s i lt)) (r.cuts i lt)) (cases_eq i n);
+    cuts = λ i h. each_push (λ _ z. (k : ℕ) × (k < size (town_in q.problem)) × (cut (town_in q.problem) (marked z.marks) k ≡ true)) ss s no_stage r.cuts out i (omega (arith, long));
     after = after;
     progress = subst (Progress (town_in q.problem) (lengths_at v') (potential_at v') c') (sym (length_push ss s)) pr;
   })
     where
       n : ℕ
       n = length ss
-
-      Out : ℕ → Type 0
-      Out i = (k : ℕ) × (k < size (town_in q.problem)) × (cut (town_in q.problem) (class_at (ss ++ s ∷ []) i) k ≡ true)
 
       long : length (ss ++ s ∷ []) ≡ suc n
       long = length_push ss s ∙ add-one n
@@ -127,21 +117,15 @@ module _ (q : Prices) (c c' : Classes) (ss : List Stage) (v v' : Level) (r : Run
       potentials_here = potentials_before (reached_in q.problem) (price_in q) ss s n (omega arith) ∙ sym r.after.crossings
 
       staged : AllStaged q c' (ss ++ s ∷ []) (length (ss ++ s ∷ []))
-      staged i h = ⊎_elim
-          (λ q. subst (λ j. At j) (sym q) last)
-          (λ ne. earlier (omega (arith, long)))
-          (cases_eq i n)
+      staged i h = each_push At ss s no_stage earlier (staged_same q c' _ _ _ _ s lengths_here potentials_here new) i (omega (arith, long))
         where
-          At : ℕ → Type 0
-          At j = Staged q c' (lengths_after (town_in q.problem) (costs_in q.problem) (ss ++ s ∷ []) j) (potentials_after (reached_in q.problem) (price_in q) (ss ++ s ∷ []) j) (get_or (ss ++ s ∷ []) j no_stage)
+          At : ℕ → Stage → Type 0
+          At j z = Staged q c' (lengths_after (town_in q.problem) (costs_in q.problem) (ss ++ s ∷ []) j) (potentials_after (reached_in q.problem) (price_in q) (ss ++ s ∷ []) j) z
 
-          last : At n
-          last = staged_same q c' _ _ _ _ s _ lengths_here potentials_here here new
-
-          earlier : i < length ss → At i
-          earlier lt =
-              staged_same q c' _ _ _ _ (get_or ss i no_stage) _ (lengths_before (town_in q.problem) (costs_in q.problem) ss s i (omega arith)) (potentials_before (reached_in q.problem) (price_in q) ss s i (omega arith))
-              (stage_before ss s i lt) (staged_kept q c c' _ _ (get_or ss i no_stage) kept (r.staged i lt))
+          earlier : (i : ℕ) → i < length ss → At i (get_or ss i no_stage)
+          earlier i lt =
+              staged_same q c' _ _ _ _ (get_or ss i no_stage) (lengths_before (town_in q.problem) (costs_in q.problem) ss s i (omega arith)) (potentials_before (reached_in q.problem) (price_in q) ss s i (omega arith))
+              (staged_kept q c c' _ _ (get_or ss i no_stage) kept (r.staged i lt))
 
       after : After q (ss ++ s ∷ []) (length (ss ++ s ∷ [])) v'
       after = subst (λ m. After q (ss ++ s ∷ []) m v') (sym long) (record {

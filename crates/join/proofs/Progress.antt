@@ -66,10 +66,7 @@ module _ (t : Town) (ends : (k : ℕ) → (one t k < 100) × (two t k < 100)) wh
 
     -- a street that leaves no more than the charge leads out of it
     exit : Exit t Z all ch.attained.0 (inner t Z ch.attained.0) (outer t Z ch.attained.0)
-    exit =
-        let a = ch.attained in
-        let d = stages.cut_ends t Z a.0 a.2 in
-        record { below = a.1; own = refl; side = d.0; inside = d.1; outside = d.2 }
+    exit = let a = ch.attained in stages.exit_is t Z all a.0 _ _ a.1 refl a.2 refl refl
 
     pub progress_charge : (l' g' : ℕ → ℕ) → l' ≡ shorter t Z e l → g' ≡ lower In Z e g → (n : ℕ) → Progress t l g c n → Progress t l' g' c (n + 1)
     progress_charge l' g' el eg n q = record {

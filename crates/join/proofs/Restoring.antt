@@ -1,5 +1,5 @@
 -- A charge that is taken off and put back. Assumes nothing.
-use Rattle.std.proofs.Common.{◌≡◌, ℕ, ◌+◌, ◌-◌, ◌<◌, ◌≤◌, Bool, true, false, not, ◌&&◌, refl, ⊎_elim, arith}
+use Rattle.std.proofs.Common.{◌≡◌, ℕ, ◌+◌, ◌-◌, ◌<◌, ◌≤◌, Bool, true, false, not, ◌&&◌, ⊎_elim, arith}
 use mathlib.Core.Path.{fun_ext}
 use Rattle.std.proofs.lemmas.Bool.{both_ways, cases_lt, and_parts, not-true}
 use Rattle.road.specs.declared.town.Town.{Town}
@@ -13,8 +13,7 @@ use Rattle.join.proofs.StreetSets.{cut_past}
 
 -- at one place: what is taken off, where there is enough, is put back
 pub back_at : (b : Bool) (n e : ℕ) → (b ≡ true → e ≤ n) → n - when b e + when b e ≡ n
-back_at true n e h = let le = h refl in omega arith
-back_at false n e h = omega arith
+back_at b n e h = grind arith
 
 -- a crossing of In that is not in Z
 pub outside_parts : (a z : Bool) → (a && not z) ≡ true → (a ≡ true) × (z ≡ false)

@@ -46,7 +46,7 @@ module _ (ss ss' : List Stage) (e : ss' ≡ reverse ss) where
       let t = town_in q.problem in
       let c = s.certified in
       let A = marked q.problem.required.now in
-      let r = q.problem.town.now.depot in
+      let r = q.problem.streets.town.now.depot in
       record {
         certified = record {
           joins = c.joins;

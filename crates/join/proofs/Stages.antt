@@ -1,26 +1,23 @@
 -- One stage of a pass: what a class can be charged, and what is left after it. Assumes nothing.
-use Rattle.std.proofs.Common.{◌≡◌, ℕ, zero, suc, ◌+◌, ◌-◌, ◌*◌, ◌%◌, ◌<◌, ◌≤◌, Bool, true, false, not, ◌&&◌, eqb, sym, refl, ap, ◌∙◌, ap₂, ⊎_elim, mul-suc, arith}
-use Rattle.std.proofs.lemmas.Bool.{cases_Bool, both_ways, eqb-true, eq-eqb}
+use Rattle.std.proofs.Common.{◌≡◌, ℕ, zero, suc, ◌+◌, ◌*◌, ◌%◌, ◌<◌, ◌≤◌, Bool, true, false, not, eqb, sym, refl, ap, ◌∙◌, ap₂, arith}
+use Rattle.std.proofs.Math.Nat.{le-mul_of_pos_right}
+use Rattle.std.proofs.lemmas.Bool.{both_ways, eqb-true, eq-eqb, not-true, false_from_ne_true}
 use Rattle.road.specs.Roads.{Town}
-use Rattle.road.specs.Counts.{◌⊕◌, when, odd, size, one, two, Set, cut, Side, forth, back}
-use Rattle.road.proofs.Parity.{xor_same, xor_self}
+use Rattle.road.specs.Counts.{◌⊕◌, odd, size, one, two, Set, cut, Side, forth, back}
+use Rattle.road.proofs.Parity.{xor_self}
 use Rattle.road.proofs.Cuts.{side_cut, side_turn, cut_side}
 use Rattle.join.specs.Weights.{end_of, inner, outer}
 use Rattle.join.specs.Joins.{◌⊞◌, single, Joins, at, cost, outs, Zero, ZeroWay, Class, Room, shorter}
-use Rattle.join.proofs.Joins.{out_none, join_on, join_back, join_between, side_join}
+use Rattle.join.proofs.Joins.{join_on, join_back, join_between, join_uncut, side_join}
 use Rattle.join.proofs.Cost.{cost_drop, cost_zero, cost_none, outs_odd, cost_short}
 use Rattle.join.specs.Exchange.{Exit, Stage}
 use Rattle.join.proofs.Exchange.{border, over_joins, over_cost}
 use Rattle.join.specs.Potentials.{Potential, Cheaper, lower, Lowest, slack}
 
-times : (a n : ℕ) → 1 ≤ n → a ≤ a * n
-times a zero h = absurd (omega arith)
-times a (suc n) h = omega (arith, mul-suc a n)
-
 module _ (t : Town) (T : Set → Bool) (In : Set) (l g : ℕ → ℕ) (K : ℕ → Set) (lv : Potential t T In l g K) where
   -- g is the same along streets of no length
   pub flat : (b x : ℕ) → ZeroWay t l b x → g x ≡ g b
-  flat b x w = eqb-true (g x) (g b) (sym (xor_same (eqb (g b) (g b)) (eqb (g x) (g b)) (sym (w.1 S) ∙ out_none t w.0 S none)) ∙ eq-eqb (g b) (g b) refl)
+  flat b x w = eqb-true (g x) (g b) (sym (join_uncut t b x w.0 S w.1 (λ k h o. uncut k h (w.2 k h o))) ∙ eq-eqb (g b) (g b) refl)
     where
       S : Set
       S v = eqb (g v) (g b)
@@ -31,14 +28,10 @@ module _ (t : Town) (T : Set → Bool) (In : Set) (l g : ℕ → ℕ) (K : ℕ �
       uncut : (k : ℕ) → k < size t → l k ≡ 0 → cut t S k ≡ false
       uncut k h z = ap (λ n. eqb n (g b) ⊕ eqb (g (two t k)) (g b)) (level k h z) ∙ xor_self (eqb (g (two t k)) (g b))
 
-      none : (k : ℕ) → k < size t → cut t S k ≡ true → w.0 k ≡ false
-      none k h c = ⊎_elim (λ y. absurd (both_ways (cut t S k) (uncut k h (w.2 k h y)) c)) (λ n. n) (cases_Bool (w.0 k))
-
   -- a set with no cut street has all crossings of In, or none
   pub whole : (Z : Set) (u v : ℕ) → In u ≡ true → In v ≡ true → ((k : ℕ) → k < size t → cut t Z k ≡ false) → Z u ≡ Z v
   whole Z u v hu hv none =
-      xor_same (Z u) (Z v) (sym (join_between t T u v (K u) (K v) (lv.joins u hu) (lv.joins v hv) Z)
-      ∙ out_none t (K u ⊞ K v) Z (λ k h c. absurd (both_ways (cut t Z k) (none k h) c)))
+      join_uncut t u v (K u ⊞ K v) Z (join_between t T u v (K u) (K v) (lv.joins u hu) (lv.joins v hv)) (λ k h _. none k h)
 
   module _ (b : ℕ) (Z : Set) (cl : Class t l b Z) (base : Lowest In g b) where
     pub flat_in : (x : ℕ) → Z x ≡ true → g x ≡ g b
@@ -96,7 +89,7 @@ module _ (t : Town) (T : Set → Bool) (In : Set) (l g : ℕ → ℕ) (K : ℕ �
     }
       where
         still : (K b ⊞ Q) k ≡ true
-        still = ap₂ (λ p q. p ⊕ q) own (⊎_elim (λ y. absurd (omega (arith, zQ k h y))) (λ n. n) (cases_Bool (Q k)))
+        still = ap₂ (λ p q. p ⊕ q) own (false_from_ne_true (Q k) (λ y. omega (arith, zQ k h y)))
 
     -- no street leads out of Z, and the set for b costs nothing
     pub done : g b ≤ cost t l (K b) → ((k : ℕ) → k < size t → cut t Z k ≡ false) → Zero t l (K b) → (u : ℕ) → In u ≡ true → g u ≡ 0
@@ -120,7 +113,7 @@ module _ (t : Town) (T : Set → Bool) (In : Set) (l g : ℕ → ℕ) (K : ℕ �
 
       -- so g is at least e there, and can be lowered
       low_out : (u : ℕ) → In u ≡ true → Z u ≡ false → cost t (shorter t Z e l) (K u) + e ≤ g u
-      low_out u hu hz = let m = outs_some u hu hz in omega (arith, short (K u), lv.low u hu, times e (outs t Z (K u)) m)
+      low_out u hu hz = let m = outs_some u hu hz in omega (arith, short (K u), lv.low u hu, le-mul_of_pos_right {m = outs t Z (K u)} e m)
 
       pub charge_fits : (u : ℕ) → In u ≡ true → Z u ≡ false → e ≤ g u
       charge_fits u hu hz = omega (arith, low_out u hu hz)
@@ -132,33 +125,6 @@ module _ (t : Town) (T : Set → Bool) (In : Set) (l g : ℕ → ℕ) (K : ℕ �
       abbrev g' : ℕ → ℕ
       g' = lower In Z e g
 
-      -- where Z has a crossing of In, and where it does not
-      in_kept : (u : ℕ) → Z u ≡ true → g' u ≡ g u
-      in_kept u p = omega (arith, ap (λ z. when (In u && not z) e) p, and_none (In u))
-        where
-          and_none : (a : Bool) → when (a && false) e ≡ 0
-          and_none true = refl
-          and_none false = refl
-
-      out_less : (u : ℕ) → In u ≡ true → Z u ≡ false → g' u + e ≡ g u
-      out_less u hu p = omega (arith, ap₂ (λ a z. when (a && not z) e) hu p, charge_fits u hu p)
-
-      -- a street, by where its ends are
-      data Place (x y : ℕ) : Type 0 where
-        within : Z x ≡ true → Z y ≡ true → Place x y
-        leaves : Z x ≡ true → Z y ≡ false → Place x y
-        enters : Z x ≡ false → Z y ≡ true → Place x y
-        apart : Z x ≡ false → Z y ≡ false → Place x y
-
-      place : (x y : ℕ) → Place x y
-      place x y = ⊎_elim
-          (λ p. ⊎_elim (λ q. within p q) (λ q. leaves p q) (cases_Bool (Z y)))
-          (λ p. ⊎_elim (λ q. enters p q) (λ q. apart p q) (cases_Bool (Z y)))
-          (cases_Bool (Z x))
-
-      street_left : (k x y : ℕ) → k < size t → Side t k x y → (a c : Bool) → Z x ≡ a → Z y ≡ c → l' k ≡ l k - when (a ⊕ c) e
-      street_left k x y h s a c p q = ap (λ z. l k - when z e) (side_cut t k x y Z s ∙ ap₂ (λ i j. i ⊕ j) p q)
-
       module _ (k x y : ℕ) (h : k < size t) (sd : Side t k x y) where
         in_x : In x ≡ true
         in_x = lv.ends k x y h sd
@@ -166,56 +132,23 @@ module _ (t : Town) (T : Set → Bool) (In : Set) (l g : ℕ → ℕ) (K : ℕ �
         in_y : In y ≡ true
         in_y = lv.ends k y x h (side_turn t k x y sd)
 
-        near_on : Place x y → g' y ≤ g' x + l' k
-        near_on (within p q) = omega (arith, in_kept x p, in_kept y q, street_left k x y h sd true true p q, lv.near k x y h sd)
-        near_on (leaves p q) =
-            omega (
-              arith,
-              in_kept x p,
-              out_less y in_y q,
-              street_left k x y h sd true false p q,
-              lv.near k x y h sd,
-              room_long e s.room k h (side_cut t k x y Z sd ∙ ap₂ (λ i j. i ⊕ j) p q),
-            )
-        near_on (enters p q) =
-            omega (
-              arith,
-              out_less x in_x p,
-              in_kept y q,
-              street_left k x y h sd false true p q,
-              flat_in y q,
-              s.room k y x h (side_turn t k x y sd) q p,
-              room_long e s.room k h (side_cut t k x y Z sd ∙ ap₂ (λ i j. i ⊕ j) p q),
-            )
-        near_on (apart p q) = omega (arith, out_less x in_x p, out_less y in_y q, street_left k x y h sd false false p q, lv.near k x y h sd)
-
-        even_on : Place x y → (g' x + g' y + l' k) % 2 ≡ 0
-        even_on (within p q) = omega (arith, in_kept x p, in_kept y q, street_left k x y h sd true true p q, lv.even k x y h sd)
-        even_on (leaves p q) =
-            omega (
-              arith,
-              in_kept x p,
-              out_less y in_y q,
-              street_left k x y h sd true false p q,
-              lv.even k x y h sd,
-              room_long e s.room k h (side_cut t k x y Z sd ∙ ap₂ (λ i j. i ⊕ j) p q),
-            )
-        even_on (enters p q) =
-            omega (
-              arith,
-              out_less x in_x p,
-              in_kept y q,
-              street_left k x y h sd false true p q,
-              lv.even k x y h sd,
-              room_long e s.room k h (side_cut t k x y Z sd ∙ ap₂ (λ i j. i ⊕ j) p q),
-            )
-        even_on (apart p q) = omega (arith, out_less x in_x p, out_less y in_y q, street_left k x y h sd false false p q, lv.even k x y h sd)
+        -- the potentials at the ends of a street
+        ends_on : (g' y ≤ g' x + l' k) × ((g' x + g' y + l' k) % 2 ≡ 0)
+        ends_on =
+            let reached_x = in_x in
+            let reached_y = in_y in
+            let cuts = side_cut t k x y Z sd in
+            let near = lv.near k x y h sd in
+            let even = lv.even k x y h sd in
+            let fits : cut t Z k ≡ true → e ≤ l k = room_long e s.room k h in
+            let low_x = charge_fits x in_x in
+            let low_y = charge_fits y in_y in
+            let same = flat_in y in
+            let room = s.room k y x h (side_turn t k x y sd) in
+            (grind arith, grind arith)
 
       low_on : (u : ℕ) → In u ≡ true → cost t l' (K u) ≤ g' u
-      low_on u hu = ⊎_elim
-          (λ p. omega (arith, in_kept u p, short (K u), lv.low u hu))
-          (λ p. omega (arith, out_less u hu p, low_out u hu p))
-          (cases_Bool (Z u))
+      low_on u hu = let sum = short (K u) in let low = lv.low u hu in let out = low_out u hu in grind arith
 
       -- after the charge they are potentials again
       pub level_on : Potential t T In (shorter t Z e l) (lower In Z e g) K
@@ -223,8 +156,8 @@ module _ (t : Town) (T : Set → Bool) (In : Set) (l g : ℕ → ℕ) (K : ℕ �
         ends = lv.ends;
         joins = lv.joins;
         low = low_on;
-        near = λ k x y h sd. near_on k x y h sd (place x y);
-        even = λ k x y h sd. even_on k x y h sd (place x y);
+        near = λ k x y h sd. (ends_on k x y h sd).0;
+        even = λ k x y h sd. (ends_on k x y h sd).1;
       }
 
 -- a cut street leads from its inner end to its outer end
@@ -232,12 +165,12 @@ pub cut_ends : (t : Town) (Z : Set) (k : ℕ) → cut t Z k ≡ true → Side t 
 cut_ends t Z k c = go (Z (one t k)) refl
   where
     go : (a : Bool) → Z (one t k) ≡ a → Side t k (end_of t k (not a)) (end_of t k a) × (Z (end_of t k (not a)) ≡ true) × (Z (end_of t k a) ≡ false)
-    go true e = (forth, e, xor_second (Z (two t k)) (ap (λ z. z ⊕ Z (two t k)) (sym e) ∙ c))
-      where
-        xor_second : (z : Bool) → not z ≡ true → z ≡ false
-        xor_second true q = absurd (both_ways false refl q)
-        xor_second false q = refl
+    go true e = (forth, e, not-true (Z (two t k)) (ap (λ z. z ⊕ Z (two t k)) (sym e) ∙ c))
     go false e = (back, ap (λ z. z ⊕ Z (two t k)) (sym e) ∙ c, e)
+
+-- a street of J that is cut leads out
+pub exit_is : (t : Town) (Z J : Set) (k x y : ℕ) → k < size t → J k ≡ true → cut t Z k ≡ true → x ≡ inner t Z k → y ≡ outer t Z k → Exit t Z J k x y
+exit_is t Z J k x y h own cuts ex ey = let d = cut_ends t Z k cuts in rw (ex, ey) (record { below = h; own = own; side = d.0; inside = d.1; outside = d.2 })
 
 -- what holds of a street at its inner and outer end holds either way round
 pub ends_cut : (t : Town) (Z : Set) (k x y : ℕ) → Side t k x y → Z x ≡ true → Z y ≡ false → (x ≡ inner t Z k) × (y ≡ outer t Z k)

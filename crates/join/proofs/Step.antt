@@ -1,13 +1,13 @@
 -- The step: a class is charged with e, and the same joins are least for the lengths that are left. Assumes nothing.
 use Rattle.std.proofs.Common.{◌≡◌, ℕ, zero, suc, ◌+◌, ◌-◌, ◌*◌, ◌<◌, ◌≤◌, Bool, true, false, not, ◌&&◌, sym, refl, ap, ◌∙◌, inl, inr, arith}
 use Rattle.road.specs.Roads.{Town}
-use Rattle.road.specs.Counts.{◌⊕◌, when, bit, odd, Set}
+use Rattle.road.specs.Counts.{when, bit, odd, Set}
 use Rattle.road.proofs.Parity.{bit_most}
 use Rattle.join.specs.Joins.{◌⊞◌, Joins, cost, outs, Class, Room, Least, shorter}
 use Rattle.join.specs.Potentials.{lower}
-use Rattle.join.proofs.Cost.{outs_odd, cost_short}
+use Rattle.join.proofs.Cost.{cost_short}
 use Rattle.join.specs.Exchange.{Circuit, circuit, go_out}
-use Rattle.join.proofs.Exchange.{Outcome, border}
+use Rattle.join.proofs.Exchange.{Outcome, parity}
 use Rattle.join.proofs.Circuits.{exchange}
 use Rattle.join.proofs.Classes.{stage, fits}
 
@@ -34,7 +34,7 @@ module _ (t : Town) (T : Set → Bool) (In : Set) (l f : ℕ → ℕ) (K : ℕ �
 
   -- the parity of the streets out of Z
   turn : (u : ℕ) (J : Set) → Joins t T u J → odd (outs t Z J) ≡ not (Z u)
-  turn u J hJ = outs_odd t Z J ∙ hJ Z ∙ ap (λ x. x ⊕ Z u) (border t T l f b Z e (K b) (stage t T In l f K m b ib Z c e pos room) c.base)
+  turn = parity t T l f b Z e (K b) (stage t T In l f K m b ib Z c e pos room) c.base
 
   -- a join costs e more than the least for each street out of Z, but for the one that its end asks for; by induction on their number
   pub charge : (n : ℕ) (u : ℕ) (J : Set) → In u ≡ true → Joins t T u J → outs t Z J ≡ n → f u + e * outs t Z J ≤ cost t l J + when (not (Z u)) e

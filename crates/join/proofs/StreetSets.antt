@@ -1,12 +1,15 @@
 -- Sets of streets as lists of marks, and sums over them. Assumes nothing.
 use Rattle.std.proofs.Common.{◌≡◌, ℕ, ◌+◌, ◌*◌, ◌<◌, ◌≤◌, Bool, true, false, List, [], length, replicate, sym, ap, ◌∙◌, ⊎_elim, arith}
+use Rattle.std.specs.Array.{IsFromFnResult}
 use mathlib.Core.Path.{fun_ext}
+use denote.Param.Members.{Mut, Called}
 use Rattle.std.proofs.lemmas.List.{get_or_past, get_or-replicate, length-replicate}
 use Rattle.std.proofs.lemmas.Bool.{cases_lt, cases_Bool, both_ways}
 use Rattle.road.specs.Counts.{◌⊕◌, when, sum, size, one, two, Set, cut}
 use Rattle.road.specs.Model.{model, marked}
 use Rattle.road.specs.Roads as roads
 use Rattle.road.specs.declared.town.Town.{Town}
+use Rattle.road.proofs.FromFn.{holds_each}
 use Rattle.road.proofs.Models.{size_model, street_model, street_past}
 use Rattle.road.proofs.Parity.{xor_self}
 use Rattle.road.proofs.Sums.{sum_le, sum_scale, sum_ones}
@@ -17,6 +20,11 @@ use Rattle.join.proofs.Cost.{cost_drop, cost_more}
 -- a list of marks is a set that it agrees with up to its end, and that has no more
 pub marked_ext : (xs : List Bool) (J : Set) (n : ℕ) → length xs ≤ n → ((k : ℕ) → k < n → marked xs k ≡ J k) → ((k : ℕ) → n ≤ k → J k ≡ false) → marked xs ≡ J
 marked_ext xs J n len low high = fun_ext (λ k. ⊎_elim (low k) (λ h. get_or_past xs k false (omega arith) ∙ sym (high k h)) (cases_lt k n))
+
+-- so are the marks of `from_fn`
+pub marks_each : {F : Type 0} {g : Mut F (ℕ × Unit {0}) Bool} {f : F} {xs : List Bool} {n : ℕ} (J : Set) → IsFromFnResult g f xs n →
+    ((k : ℕ) (b : Bool) (q : F) → k < n → Called g f (k, tt) b q → (q ≡ f) × (b ≡ J k)) → ((k : ℕ) → n ≤ k → J k ≡ false) → marked xs ≡ J
+marks_each J r pure high = marked_ext _ J _ (omega (arith, r.long)) (λ k h. holds_each J r pure k false h) high
 
 -- past their ends two sets have no streets
 pub none_past : (xs ys : List Bool) (k : ℕ) → length xs ≤ k → length ys ≤ k → marked xs k ⊕ marked ys k ≡ false
@@ -33,8 +41,7 @@ sum_bound n m f h =
     omega (arith, sum_scale n m (λ _. 1), ap (λ x. m * x) (sum_ones n))
 
 pub when_le : (b : Bool) (n m : ℕ) → n ≤ m → when b n ≤ m
-when_le true n m h = h
-when_le false n m h = omega arith
+when_le b n m h = grind arith
 
 -- no set costs much, where no street does
 pub cost_bound : (t : Town) (l : ℕ → ℕ) (J : Set) → ((k : ℕ) → l k ≤ 4000000000) → cost (model t) l J ≤ 1200000000000

@@ -5,10 +5,12 @@ use Rattle.road.specs.Roads.{Town, street, Sound}
 use Rattle.road.specs.Counts.{◌⊕◌, bit, odd, size, one, two, Set, degree, Side, forth, back, all}
 use Rattle.road.proofs.Parity.{xor_self, xor_twice, odd_add, odd_bit, odd_double, odd_mod}
 use Rattle.join.specs.Joins.{◌⊞◌, single, out, Joins, once, cost, Least}
+use Rattle.join.specs.Odd.{streets_of}
 use Rattle.join.specs.Extra.{Inside, counts, extra_length, ExtraDrives}
-use Rattle.join.proofs.Joins.{degree_odd, out_xor, out_ext, join_on, join_once, side_join, drive_join}
+use Rattle.join.proofs.Joins.{degree_odd, out_xor, out_ext, join_on, join_once, side_join}
 use Rattle.join.proofs.Cost.{cost_double}
 use Rattle.join.proofs.Linear.{linear_once}
+use Rattle.join.proofs.Pairing.{drive_streets}
 use Rattle.join.proofs.Search.{LeastJoin, best}
 use Rattle.join.proofs.Pricing.{Priced, least_priced}
 
@@ -87,8 +89,7 @@ module _ (t : Town) (depot : ℕ) (sound : Sound t depot) where
   come : (k : ℕ) → k < size t → (J : Set) × Joins t T (one t k) J
   come k h =
       let d = sound.joined k h in
-      let q = drive_join t depot (one t k) d.0 d.1 in
-      (all ⊞ q.0, join_on t T depot (one t k) all q.0 (join_once t all depot) q.1)
+      (all ⊞ streets_of d.0, join_on t T depot (one t k) all (streets_of d.0) (join_once t all depot) (drive_streets t depot (one t k) d.0 d.1))
 
   -- they are least
   least : Least t T In l f K

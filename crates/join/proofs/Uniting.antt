@@ -1,17 +1,18 @@
 -- Classes of crossings that come into one another. Assumes nothing.
-use Rattle.std.proofs.Common.{◌≡◌, ℕ, ◌+◌, ◌<◌, Bool, true, false, ◌&&◌, eqb, ltb, List, [], length, get_or, set, vec_items, sym, refl, ap, ◌∙◌, subst, ap₂, ⊎_elim, arith}
+use Rattle.std.proofs.Common.{◌≡◌, ℕ, ◌+◌, ◌<◌, Bool, true, ◌&&◌, eqb, ltb, List, [], length, get_or, set, vec_items, sym, refl, ap, ◌∙◌, subst, ap₂, ⊎_elim, arith}
 use mathlib.Core.Path.{fun_ext}
-use Rattle.std.proofs.lemmas.List.{get_or-set_same, get_or-set_other, get_or_past}
-use Rattle.std.proofs.lemmas.Bool.{cases_eq, cases_lt, lt-ltb, le-ltb, and_parts, eqb-true, ltb-true, eq-eqb, both_ways}
+use Rattle.std.proofs.lemmas.List.{get_or-set_same, get_or-set_other}
+use Rattle.std.proofs.lemmas.Bool.{cases_eq, lt-ltb, le-ltb, and_parts, eqb-true, ltb-true, eq-eqb, both_ways}
 use Rattle.road.specs.Roads.{Town, pick}
 use Rattle.road.specs.Counts.{◌⊕◌, size, one, two, Set, cut, Side, forth}
 use Rattle.road.specs.Model.{marked}
-use Rattle.road.proofs.Parity.{xor_true, xor_self, xor_cancel, xor_assoc, xor_swap}
+use Rattle.road.proofs.Parity.{xor_true, xor_self}
 use Rattle.join.specs.declared.partition.Classes.{Classes}
 use Rattle.join.specs.Joins.{◌⊞◌, single, Joins, at, Zero, Class}
 use Rattle.join.specs.Amounts.{row}
 use Rattle.join.specs.Classes.{label_in, way_in, Classed, Merged, Absorbed, Kept, class_in}
-use Rattle.join.proofs.Joins.{join_on, join_back, side_join}
+use Rattle.join.proofs.Joins.{join_on, join_back, side_join, xor_meet}
+use Rattle.join.proofs.StreetSets.{marked_ext}
 use Rattle.join.proofs.Labels.{pick_same, pick_other, relabelled, label_kept}
 
 -- streets in one of two sets of no length have none
@@ -112,13 +113,10 @@ module _ (from to : ℕ) (link : Set) (c d : Classes) (p : Absorbed from to link
   absorbed_kept = record {
     labels = λ u v hu hv e. p.labels u hu ∙ ap (λ a. pick (eqb a from) to a) e ∙ sym (p.labels v hv);
     ways = λ u v hu hv e. ⊎_elim
-        (λ f. ap₂ (λ J Q. J ⊞ Q) (way_from u hu f) (way_from v hv (sym e ∙ f)) ∙ fun_ext (λ k. twice (link k) (way_in c u k) (way_in c v k)))
+        (λ f. ap₂ (λ J Q. J ⊞ Q) (way_from u hu f) (way_from v hv (sym e ∙ f)) ∙ fun_ext (λ k. xor_meet (link k) (way_in c u k) (way_in c v k)))
         (λ ne. ap₂ (λ J Q. J ⊞ Q) (way_other u hu ne) (way_other v hv (λ f. ne (e ∙ f))))
         (cases_eq (label_in c u) from);
   }
-    where
-      twice : (a b e : Bool) → (a ⊕ b) ⊕ (a ⊕ e) ≡ b ⊕ e
-      twice a b e = xor_assoc a b (a ⊕ e) ∙ ap (λ x. a ⊕ x) (xor_swap b a e) ∙ xor_cancel a (b ⊕ e)
 
 -- the way from the label of x over the street k and from y back to its label
 pub link_is : (t : Town) (l : ℕ → ℕ) (c : Classes) (k x y : ℕ) (H Q : Set) → Classed t l c → k < size t → l k ≡ 0 →
@@ -149,10 +147,9 @@ merged_more t l c d k ends m p here j h z = ⊎_elim
 -- the marks of a class
 pub class_marks : (marks : List Bool) (c : Classes) (b : ℕ) → length marks ≡ 100 →
     ((v : ℕ) → v < 100 → marked marks v ≡ eqb (label_in c v) (label_in c b)) → marked marks ≡ class_in c b
-class_marks marks c b len h = fun_ext (λ v. ⊎_elim
-    (λ lt. h v lt ∙ ap (λ x. x && eqb (label_in c v) (label_in c b)) (sym (lt-ltb v 100 lt)))
-    (λ le. get_or_past marks v false (omega arith) ∙ ap (λ x. x && eqb (label_in c v) (label_in c b)) (sym (le-ltb v 100 le)))
-    (cases_lt v 100))
+class_marks marks c b len h = marked_ext marks (class_in c b) 100 (omega arith)
+    (λ v lt. h v lt ∙ ap (λ x. x && eqb (label_in c v) (label_in c b)) (sym (lt-ltb v 100 lt)))
+    (λ v le. ap (λ x. x && eqb (label_in c v) (label_in c b)) (le-ltb v 100 le))
 
 -- the way from b to a crossing of its class
 pub class_way : (t : Town) (l : ℕ → ℕ) (c : Classes) (b x : ℕ) → Classed t l c → b < 100 → class_in c b x ≡ true →

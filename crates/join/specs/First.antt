@@ -17,9 +17,9 @@ Leads t depot K ws u J = (T : Set → Bool) (way : Way) → to ws u ≡ Some way
 
 -- a set that leads to the depot, and ways from there to each crossing that can be come to
 pub record Rooted (p : Problem) (K : Set) (ws : Ways) : Type 0 where
-  pub shown : AllShown (town_in p) p.town.now.depot ws
-  pub home : Joins (town_in p) (start_in p) p.town.now.depot K
-  pub found : (u : ℕ) → reached_in p u ≡ true → (u < p.town.now.crossings) × ((way : Way) × (to ws u ≡ Some way))
+  pub shown : AllShown (town_in p) p.streets.town.now.depot ws
+  pub home : Joins (town_in p) (start_in p) p.streets.town.now.depot K
+  pub found : (u : ℕ) → reached_in p u ≡ true → (u < p.streets.town.now.crossings) × ((way : Way) × (to ws u ≡ Some way))
 
 -- sets for the crossings below n, with what they cost
 pub record Begun (p : Problem) (ss : List PricedDrives) (n : ℕ) : Type 0 where

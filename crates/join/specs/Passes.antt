@@ -77,5 +77,5 @@ Ends q v (Some f) = Cheaper (town_in q.problem) (start_in q.problem) (reached_in
 
 -- stages that show that prices are least, each charged no more than a street out of its class costs
 pub record ShowsLeast (q : Prices) (ss : List Stage) : Type 0 where
-  pub certified : Certified (town_in q.problem) (marked q.problem.required.now) (costs_in q.problem) q.problem.town.now.depot (reached_in q.problem) (price_in q) (extra_in q) ss
+  pub certified : Certified (town_in q.problem) (marked q.problem.required.now) (costs_in q.problem) q.problem.streets.town.now.depot (reached_in q.problem) (price_in q) (extra_in q) ss
   pub most : (i : ℕ) → i < length ss → (k : ℕ) × (k < size (town_in q.problem)) × (charge_at ss i ≤ costs_in q.problem k)

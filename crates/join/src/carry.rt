@@ -54,7 +54,7 @@ impl ChargedCut<'_, '_, '_> {
             .classes
             .lead_on(&turned, base, circuit.out.inner, circuit.out.street);
         let streets = Weighted {
-            town: prices.problem.town,
+            town: prices.problem.streets.town,
             lengths: &level.lengths,
         };
         if streets.cost(&out) < level.potential[circuit.out.outer] {
@@ -72,7 +72,7 @@ impl ChargedCut<'_, '_, '_> {
         let prices = self.prices;
         let stage = self.stage;
         let cut = Cut {
-            town: prices.problem.town,
+            town: prices.problem.streets.town,
             marks: &stage.marks,
         };
         if cut.outs(&found.drives) <= 1 {

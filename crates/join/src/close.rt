@@ -49,8 +49,7 @@ impl Cut<'_, '_> {
             (λ k. (k < self.now.town.now.count) × Second (ground self.now) (side_of self.now) (marked drives.now) (marked marks.now) first k) }
     {
         (0..self.town.count).find(|&k| k != first
-            && drives[k]
-            && self.has(k)
+            && self.is_exit(drives, k)
             && marks[self.outer_end(k)])
     }
 
@@ -89,8 +88,7 @@ impl Cut<'_, '_> {
     {
         // A loop over street numbers: a closure for `find_map` would have to repeat the clauses of `close`.
         for k in 0..self.town.count {
-            let cut = self.has(k);
-            if drives[k] && cut {
+            if self.is_exit(drives, k) {
                 if let Some(circuit) = self.close(drives, base, component, k) {
                     return Some(circuit);
                 }

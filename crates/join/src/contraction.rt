@@ -14,5 +14,5 @@ pub(crate) struct Contraction<'a, 't, 'c> {
     pub classes: &'a Classes,
     ghost pass: { Pass prices.now level.now },
     ghost classed: { Classed (town_in prices.now.problem) (lengths_at level.now) classes.now },
-    ghost merged: { Merged (town_in prices.now.problem) (lengths_at level.now) classes.now prices.now.problem.town.now.count },
+    ghost merged: { Merged (town_in prices.now.problem) (lengths_at level.now) classes.now prices.now.problem.streets.town.now.count },
 }

@@ -1,7 +1,7 @@
 // The streets that lead out of a set of crossings.
-ghost use Rattle.std.specs.Prelude.{◌≡◌, ℕ, ◌<◌, true, false, MatchOption};
+ghost use Rattle.std.specs.Prelude.{◌≡◌, ℕ, ◌<◌, true, false, ◌&&◌, MatchOption};
 ghost use Rattle.road.specs.Counts.{◌⊕◌, size, one, cut as cuts};
-ghost use Rattle.road.specs.Model.{model, marked};
+ghost use Rattle.road.specs.Model.{marked};
 ghost use Rattle.join.specs.Joins.{outs as ways};
 ghost use Rattle.join.specs.Weights.{ground, side_of, end_of, inner, outer};
 
@@ -16,12 +16,21 @@ impl Cut<'_, '_> {
         self.marks[street.one] != self.marks[street.two]
     }
 
+    // Whether street k is one of a set, and is cut.
+    pub(crate) fn is_exit(&self, drives: &[bool; 300], k: usize) -> bool
+        requires { k < 300 }
+        ensures { result ≡ (marked drives.now k && cuts (ground self.now) (side_of self.now) k) }
+    {
+        let cut = self.has(k);
+        drives[k] && cut
+    }
+
     // How many streets of a set are cut.
     pub(crate) fn outs(&self, drives: &[bool; 300]) -> usize
         ensures { result ≡ ways (ground self.now) (side_of self.now) (marked drives.now) }
     {
         (0..self.town.count)
-            .filter(|&k| drives[k] && self.has(k))
+            .filter(|&k| self.is_exit(drives, k))
             .count()
     }
 
@@ -59,6 +68,6 @@ impl Cut<'_, '_> {
         ensures { MatchOption result ((k : ℕ) → k < size (ground self.now) → cuts (ground self.now) (side_of self.now) k ≡ true → marked drives.now k ≡ false)
             (λ k. (k < self.now.town.now.count) × (marked drives.now k ≡ true) × (cuts (ground self.now) (side_of self.now) k ≡ true)) }
     {
-        (0..self.town.count).find(|&k| drives[k] && self.has(k))
+        (0..self.town.count).find(|&k| self.is_exit(drives, k))
     }
 }

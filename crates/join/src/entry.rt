@@ -12,6 +12,7 @@ use crate::prices::Prices;
 use crate::problem::Problem;
 use crate::solve::Solved;
 use crate::start::{way_to, ways_from};
+use crate::weighted::Weighted;
 use road::{SoundTown, Town};
 use std::alloc::{AllocError, Global};
 use std::array::from_fn;
@@ -59,10 +60,13 @@ impl<'t> LeastDrives<'t> {
         let reached = reached_by(&town.town, &ways);
         let required = [true; 300];
         let costs = double_lengths(&town.town);
-        let problem = Problem {
+        let streets = Weighted {
             town: &town.town,
+            lengths: &costs,
+        };
+        let problem = Problem {
+            streets,
             required: &required,
-            costs: &costs,
             reached: &reached,
         };
         let Solved {

@@ -10,7 +10,6 @@ use crate::drives::PricedDrives;
 use crate::prices::Prices;
 use crate::problem::Problem;
 use crate::start::{flip_along, way_to};
-use crate::weighted::Weighted;
 use road::Town;
 use std::alloc::{AllocError, Global};
 use ways::Ways;
@@ -32,8 +31,8 @@ fn set_for(problem: &Problem, home: &[bool; 300], ways: &Ways, u: usize) -> [boo
     requires { Rooted problem.now (marked home.now) ways.now }
     ensures { reached_in problem.now u ≡ true → Joins (town_in problem.now) (start_in problem.now) u (marked result) }
 {
-    if u < problem.town.crossings {
-        along_way(problem.town, home, ways, u)
+    if u < problem.streets.town.crossings {
+        along_way(problem.streets.town, home, ways, u)
     } else {
         *home
     }
@@ -45,11 +44,7 @@ impl Problem<'_, '_> {
         ensures drives { result.drives ≡ drives }
         ensures price { result.price ≡ pos (cost (town_in self.now) (costs_in self.now) (marked drives)) }
     {
-        let streets = Weighted {
-            town: self.town,
-            lengths: self.costs,
-        };
-        let price = streets.cost(&drives);
+        let price = self.streets.cost(&drives);
         PricedDrives { drives, price }
     }
 }

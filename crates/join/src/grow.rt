@@ -51,8 +51,7 @@ impl Component {
     {
         let mut more = false;
         for k in 0..town.count {
-            let here = self.grow_over(town, allowed, k);
-            more = more || here;
+            more |= self.grow_over(town, allowed, k);
         }
         more
     }

@@ -1,10 +1,10 @@
 // Least extra drives to every crossing, and the charged classes that show that they are least.
-ghost use Rattle.std.specs.Prelude.{◌≡◌, ℕ, ◌<◌, ◌≤◌, length, pos, slice_index_or};
+ghost use Rattle.std.specs.Prelude.{◌≡◌, ℕ, ◌<◌, ◌≤◌, length};
 ghost use Rattle.road.specs.Counts.{all};
 ghost use Rattle.road.specs.Reach.{reached as come};
 ghost use Rattle.road.specs.Model.{model, marked};
 ghost use Rattle.join.specs.Drives.{drives_of, price_of};
-ghost use Rattle.join.specs.Certified.{no_stage, charge_at, double, AllJoin, AllPriced, AllOdd, AllBear, AllSum, AllSome};
+ghost use Rattle.join.specs.Certified.{charge_at, double, AllJoin, AllPriced, AllOdd, AllBear, AllSum, AllSome};
 
 use crate::drives::PricedDrives;
 use crate::turn::Stage;

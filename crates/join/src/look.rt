@@ -27,13 +27,13 @@ impl Contraction<'_, '_, '_> {
         let level = self.level;
         let classes = self.classes;
         let streets = Weighted {
-            town: prices.problem.town,
+            town: prices.problem.streets.town,
             lengths: &level.lengths,
         };
         let drives = prices.extra_for(b);
         match streets.long_street(drives) {
             Some(k) => {
-                let street = prices.problem.town.street(k);
+                let street = prices.problem.streets.town.street(k);
                 let there = classes.lead_on(drives, b, street.one, k);
                 let home = xor(classes.way_to(b), classes.way_to(street.two));
                 Turn::Better(Found {
@@ -56,7 +56,7 @@ impl Contraction<'_, '_, '_> {
         let b = level.least(&prices.problem);
         let drives = prices.extra_for(b);
         let streets = Weighted {
-            town: prices.problem.town,
+            town: prices.problem.streets.town,
             lengths: &level.lengths,
         };
         if streets.cost(drives) < level.potential[b] {
@@ -67,7 +67,7 @@ impl Contraction<'_, '_, '_> {
         }
         let marks = classes.class_of(b);
         let cut = Cut {
-            town: prices.problem.town,
+            town: prices.problem.streets.town,
             marks: &marks,
         };
         if let Some(k) = cut.exit(drives) {
@@ -78,16 +78,12 @@ impl Contraction<'_, '_, '_> {
                 drives: classes.lead_on(drives, b, x, k),
             });
         }
-        match cut.exit(&[true; 300]) {
-            Some(k) => {
-                let tight = level.tightest(&cut, b, k);
-                let charge = level.slack(&cut, b, tight);
-                Turn::Charge(Stage {
-                    marks,
-                    charge,
-                    base: b,
-                })
-            }
+        match level.least_slack(&cut, b) {
+            Some(charge) => Turn::Charge(Stage {
+                marks,
+                charge,
+                base: b,
+            }),
             None => self.look_inside(b),
         }
     }

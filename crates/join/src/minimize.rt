@@ -10,7 +10,6 @@ use crate::component::Component;
 use crate::prices::Prices;
 use crate::tally::Tally;
 use crate::turn::{Found, Stage};
-use crate::weighted::Weighted;
 use std::alloc::{AllocError, Global};
 
 impl Prices<'_, '_> {
@@ -20,11 +19,7 @@ impl Prices<'_, '_> {
         ensures problem { self.new.problem ≡ self.old.problem }
         ensures lower { all_prices self.new < all_prices self.old }
     {
-        let streets = Weighted {
-            town: self.problem.town,
-            lengths: self.problem.costs,
-        };
-        let price = streets.cost(&found.drives);
+        let price = self.problem.streets.cost(&found.drives);
         self.replace(found.crossing, found.drives, price);
     }
 

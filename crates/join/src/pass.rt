@@ -41,12 +41,12 @@ impl Level {
 impl Prices<'_, '_> {
     // The level at which a pass begins.
     fn level(&self) -> Level
-        requires { AllNear self.now self.now.problem.town.now.count }
+        requires { AllNear self.now self.now.problem.streets.town.now.count }
         ensures pass { Pass self.now result }
         ensures after { After self.now [] 0 result }
     {
         Level {
-            lengths: *self.problem.costs,
+            lengths: *self.problem.streets.lengths,
             potential: self.all(),
         }
     }
@@ -58,7 +58,7 @@ impl Prices<'_, '_> {
         tally: &mut Tally,
         heap: Global,
     ) -> Result<Result<Vec<Stage>, Found>, AllocError>
-        requires { AllNear self.now self.now.problem.town.now.count }
+        requires { AllNear self.now self.now.problem.streets.town.now.count }
         ensures { IfOk result (λ r. MatchResult r (λ stages. ShowsLeast self.now stages.items)
             (λ found. Cheaper (town_in self.now.problem) (start_in self.now.problem) (reached_in self.now.problem) (costs_in self.now.problem) (price_in self.now) found.crossing (marked found.drives))) }
     {

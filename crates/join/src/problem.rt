@@ -2,23 +2,19 @@
 ghost use Rattle.std.specs.Prelude.{◌≡◌, ℕ, ◌%◌, ◌<◌, true, length};
 ghost use Rattle.road.specs.Counts.{size, one, two};
 ghost use Rattle.road.specs.Model.{model, marked};
-ghost use Rattle.join.specs.Amounts.{number, Whole, Most};
+ghost use Rattle.join.specs.Amounts.{number};
 
-use road::Town;
+use crate::weighted::Weighted;
 
-// The costs are in half metres, and even. Drives begin at the depot.
+// The lengths of the streets are what they cost, in half metres, and even. Drives begin at the depot.
 #[derive(Clone, Copy)]
 pub(crate) struct Problem<'t, 'c> {
-    pub town: &'t Town,
+    pub streets: Weighted<'t, 'c>,
     pub required: &'c [bool; 300],
-    pub costs: &'c [i64; 300],
     pub reached: &'c [bool; 100],
     ghost places: { length reached.now ≡ 100 },
-    ghost streets: { length costs.now ≡ 300 },
-    ghost whole: { Whole costs.now },
-    ghost most: { Most 4000000000 costs.now },
-    ghost even: { (k : ℕ) → number costs.now k % 2 ≡ 0 },
-    ghost home: { marked reached.now town.now.depot ≡ true },
-    ghost ones: { (k : ℕ) → k < size (model town.now) → marked reached.now (one (model town.now) k) ≡ true },
-    ghost twos: { (k : ℕ) → k < size (model town.now) → marked reached.now (two (model town.now) k) ≡ true },
+    ghost even: { (k : ℕ) → number streets.lengths.now k % 2 ≡ 0 },
+    ghost home: { marked reached.now streets.town.now.depot ≡ true },
+    ghost ones: { (k : ℕ) → k < size (model streets.town.now) → marked reached.now (one (model streets.town.now) k) ≡ true },
+    ghost twos: { (k : ℕ) → k < size (model streets.town.now) → marked reached.now (two (model streets.town.now) k) ≡ true },
 }

@@ -8,7 +8,6 @@ ghost use Rattle.join.specs.Prices.{extra_in, price_in, Lowered, Near, AllNear, 
 use crate::drives::PricedDrives;
 use crate::prices::Prices;
 use crate::sets::flip;
-use crate::weighted::Weighted;
 use road::Leg;
 use std::array::from_fn;
 
@@ -50,16 +49,13 @@ impl Prices<'_, '_> {
 
     // Comes to one end of street k from the other where that is cheaper, and says whether it is.
     fn relax_over(&mut self, k: usize, back: bool) -> bool
-        requires { k < self.old.problem.town.now.count }
+        requires { k < self.old.problem.streets.town.now.count }
         ensures { Lowered self.old self.new result (Near self.old k back) }
     {
+        let streets = &self.problem.streets;
         let leg = Leg { by: k, back };
-        let x = self.problem.town.begin_of(leg);
-        let y = self.problem.town.end_of(leg);
-        let streets = Weighted {
-            town: self.problem.town,
-            lengths: self.problem.costs,
-        };
+        let x = streets.town.begin_of(leg);
+        let y = streets.town.end_of(leg);
         let cost = streets.cost_flipped(self.extra_for(x), k, self.price_for(x));
         if cost < self.price_for(y) {
             self.replace(y, flip(self.extra_for(x), k), cost);
@@ -70,21 +66,20 @@ impl Prices<'_, '_> {
 
     // Comes over each street both ways where that is cheaper, and says whether any is.
     fn sweep(&mut self) -> bool
-        ensures { Lowered self.old self.new result (AllNear self.new self.new.problem.town.now.count) }
+        ensures { Lowered self.old self.new result (AllNear self.new self.new.problem.streets.town.now.count) }
     {
-        let mut any = false;
-        for k in 0..self.problem.town.count {
-            let there = self.relax_over(k, false);
-            let back = self.relax_over(k, true);
-            any = any || there || back;
+        let mut lower = false;
+        for k in 0..self.problem.streets.town.count {
+            lower |= self.relax_over(k, false);
+            lower |= self.relax_over(k, true);
         }
-        any
+        lower
     }
 
     // Comes over streets until nothing is cheaper.
     pub(crate) fn relax(&mut self)
         ensures problem { self.new.problem ≡ self.old.problem }
-        ensures near { AllNear self.new self.new.problem.town.now.count }
+        ensures near { AllNear self.new self.new.problem.streets.town.now.count }
         ensures lower { all_prices self.new ≤ all_prices self.old }
     {
         while self.sweep() {}

@@ -1,5 +1,5 @@
 // Sets of streets, and of crossings.
-ghost use Rattle.std.specs.Prelude.{◌≡◌, ℕ, ◌<◌, true, false, set, replicate, IfOk, slice_set};
+ghost use Rattle.std.specs.Prelude.{◌≡◌, ◌<◌, true, false, replicate, IfOk, slice_set};
 ghost use Rattle.road.specs.Model.{marked};
 ghost use Rattle.join.specs.Joins.{◌⊞◌, single};
 ghost use Rattle.join.specs.Amounts.{AllEmpty};

@@ -1,8 +1,9 @@
 // The charge of a stage taken off lengths and potentials, and put back.
-ghost use Rattle.std.specs.Prelude.{◌≡◌, ℕ, ◌+◌, ◌<◌, ◌≤◌, true, false, not, ◌&&◌, length};
+ghost use Rattle.std.specs.Prelude.{◌≡◌, ℕ, ◌+◌, ◌<◌, ◌≤◌, pos, true, false, not, ◌&&◌, length};
+ghost use Rattle.road.specs.Roads.{pick};
 ghost use Rattle.road.specs.Counts.{size, cut as cuts};
 ghost use Rattle.road.specs.Model.{marked};
-ghost use Rattle.join.specs.Amounts.{amount, number, Whole, Moves, shifted};
+ghost use Rattle.join.specs.Amounts.{amount, number, Whole, Moves, moved, shifted};
 ghost use Rattle.join.specs.Joins.{shorter};
 ghost use Rattle.join.specs.Potentials.{lower};
 ghost use Rattle.join.specs.Weights.{ground, side_of};
@@ -16,6 +17,15 @@ use crate::problem::Problem;
 use crate::turn::Stage;
 use std::array;
 
+// An amount with a number added, which may be negative, if it is to be.
+fn shifted_if(here: bool, held: i64, by: i64) -> i64
+    requires whole { held ≡ pos (amount held) }
+    requires fits { here ≡ true → Moves 1200000000000 (amount held) by }
+    ensures { result ≡ pos (pick here (moved (amount held) by) (amount held)) }
+{
+    if here { held + by } else { held }
+}
+
 // Adds a number, which may be negative, to the amounts at the places of a set.
 fn shift<const N: usize>(amounts: &mut [i64; N], places: &[bool; N], by: i64)
     requires whole { Whole amounts.old }
@@ -25,17 +35,15 @@ fn shift<const N: usize>(amounts: &mut [i64; N], places: &[bool; N], by: i64)
     ensures is { number amounts.new ≡ shifted (marked places.now) by (number amounts.old) }
 {
     for (k, amount) in amounts.iter_mut().enumerate() {
-        if places[k] {
-            *amount += by;
-        }
+        *amount = shifted_if(places[k], *amount, by);
     }
 }
 
 // The crossings that can be come to and are not marked.
-fn outside(reached: &[bool; 100], marks: &[bool; 100]) -> [bool; 100]
+fn unmarked(reached: &[bool; 100], marks: &[bool; 100]) -> [bool; 100]
     ensures { marked result ≡ (λ u. marked reached.now u && not (marked marks.now u)) }
 {
-    array::from_fn(|u| reached[u] && !marks[u])
+    array::from_fn(|u| reached[u] & !marks[u])
 }
 
 impl Cut<'_, '_> {
@@ -43,7 +51,12 @@ impl Cut<'_, '_> {
     fn streets(&self) -> [bool; 300]
         ensures { marked result ≡ cuts (ground self.now) (side_of self.now) }
     {
-        array::from_fn(|k| self.has(k))
+        // By index: `from_fn` would go over all 300 places, and takes twice as long.
+        let mut streets = [false; 300];
+        for k in 0..self.town.count {
+            streets[k] = self.has(k);
+        }
+        streets
     }
 }
 
@@ -56,11 +69,11 @@ impl Level {
         ensures crossings { potential_at self.new ≡ shifted (λ u. reached_in problem.now u && not (marked marks.now u)) by (potential_at self.old) }
     {
         let cut = Cut {
-            town: problem.town,
+            town: problem.streets.town,
             marks,
         };
         shift(&mut self.lengths, &cut.streets(), by);
-        shift(&mut self.potential, &outside(problem.reached, marks), by);
+        shift(&mut self.potential, &unmarked(problem.reached, marks), by);
     }
 
     // Takes the charge of a stage off the streets that its class cuts, and off the crossings outside.

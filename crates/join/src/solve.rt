@@ -26,12 +26,12 @@ pub(crate) struct Solved<'t, 'c> {
 impl<'t, 'c> Problem<'t, 'c> {
     // Finds least prices, with the ways from the depot.
     pub(crate) fn solve(&self, ways: &Ways, heap: Global) -> Result<Solved<'t, 'c>, AllocError>
-        requires shown { AllShown (town_in self.now) self.now.town.now.depot ways.now }
-        requires found { (u : ℕ) → reached_in self.now u ≡ true → (u < self.now.town.now.crossings) × ((way : Path) × (to ways.now u ≡ Some way)) }
+        requires shown { AllShown (town_in self.now) self.now.streets.town.now.depot ways.now }
+        requires found { (u : ℕ) → reached_in self.now u ≡ true → (u < self.now.streets.town.now.crossings) × ((way : Path) × (to ways.now u ≡ Some way)) }
         ensures problem { IfOk result (λ s. s.prices.problem ≡ self.now) }
         ensures shown { IfOk result (λ s. ShowsLeast s.prices s.stages.items) }
     {
-        let home = pair_off(self.town, self.required, heap)?;
+        let home = pair_off(self.streets.town, self.required, heap)?;
         let mut prices = Prices::first(self, &home, ways, heap)?;
         let mut component = Component {
             from: 0,

@@ -1,6 +1,6 @@
 // The crossing with the least potential, and what its class can be charged.
-ghost use Rattle.std.specs.Prelude.{◌≡◌, ℕ, ◌/◌, ◌<◌, ◌≤◌, true, pos};
-ghost use Rattle.road.specs.Counts.{cut as cuts};
+ghost use Rattle.std.specs.Prelude.{◌≡◌, ℕ, ◌/◌, ◌<◌, ◌≤◌, true, false, pos, MatchOption};
+ghost use Rattle.road.specs.Counts.{size, cut as cuts};
 ghost use Rattle.join.specs.Joins.{Room};
 ghost use Rattle.join.specs.Weights.{ground, side_of};
 ghost use Rattle.join.specs.Problems.{reached_in};
@@ -24,7 +24,7 @@ impl Level {
         ensures below { result < 100 }
         ensures lowest { Lowest (reached_in problem.now) (potential_at self.now) result }
     {
-        (0..100).fold(problem.town.depot, |b, u| {
+        (0..100).fold(problem.streets.town.depot, |b, u| {
             if problem.reached[u] && self.potential[u] < self.potential[b] {
                 u
             } else {
@@ -33,33 +33,32 @@ impl Level {
         })
     }
 
-    // How much a cut street leaves to be charged.
-    pub(crate) fn slack(&self, cut: &Cut, b: usize, k: usize) -> i64
+    // How much street k leaves to be charged, if it is cut.
+    fn slack(&self, cut: &Cut, b: usize, k: usize) -> Option<i64>
         requires base { b < 100 }
         requires room { Room (ground cut.now) (lengths_at self.now) (potential_at self.now) b (side_of cut.now) 1 }
         requires below { k < cut.now.town.now.count }
-        requires cuts { cuts (ground cut.now) (side_of cut.now) k ≡ true }
-        ensures is { result ≡ pos (leaves (ground cut.now) (lengths_at self.now) (potential_at self.now) b (side_of cut.now) k) }
-        ensures some { 1 ≤ leaves (ground cut.now) (lengths_at self.now) (potential_at self.now) b (side_of cut.now) k }
+        ensures { MatchOption result (cuts (ground cut.now) (side_of cut.now) k ≡ false)
+            (λ e. (cuts (ground cut.now) (side_of cut.now) k ≡ true) × (e ≡ pos (leaves (ground cut.now) (lengths_at self.now) (potential_at self.now) b (side_of cut.now) k))) }
     {
+        if !cut.has(k) {
+            return None;
+        }
         let y = cut.outer_end(k);
-        half(self.potential[y] + self.lengths[k] - self.potential[b])
+        Some(half(self.potential[y] + self.lengths[k] - self.potential[b]))
     }
 
-    // Of the cut streets, of which k is one, the one that leaves least to be charged.
-    pub(crate) fn tightest(&self, cut: &Cut, b: usize, k: usize) -> usize
+    // The least that a cut street leaves to be charged, if a street is cut.
+    pub(crate) fn least_slack(&self, cut: &Cut, b: usize) -> Option<i64>
         requires base { b < 100 }
         requires room { Room (ground cut.now) (lengths_at self.now) (potential_at self.now) b (side_of cut.now) 1 }
-        requires below { k < cut.now.town.now.count }
-        requires cuts { cuts (ground cut.now) (side_of cut.now) k ≡ true }
-        ensures { Tightest (ground cut.now) (lengths_at self.now) (potential_at self.now) b (side_of cut.now) cut.now.town.now.count result }
+        ensures { MatchOption result ((k : ℕ) → k < size (ground cut.now) → cuts (ground cut.now) (side_of cut.now) k ≡ false)
+            (λ e. (k : ℕ) × Tightest (ground cut.now) (lengths_at self.now) (potential_at self.now) b (side_of cut.now) cut.now.town.now.count k
+            × (e ≡ pos (leaves (ground cut.now) (lengths_at self.now) (potential_at self.now) b (side_of cut.now) k))
+            × (1 ≤ leaves (ground cut.now) (lengths_at self.now) (potential_at self.now) b (side_of cut.now) k)) }
     {
-        (0..cut.town.count).fold(k, |best, j| {
-            if cut.has(j) && self.slack(cut, b, j) < self.slack(cut, b, best) {
-                j
-            } else {
-                best
-            }
-        })
+        (0..cut.town.count)
+            .filter_map(|k| self.slack(cut, b, k))
+            .min()
     }
 }

@@ -26,8 +26,7 @@ fn has_one_end(town: &Town, set: &[bool; 300], k: usize, v: usize) -> bool
 fn is_odd(town: &Town, set: &[bool; 300], v: usize) -> bool
     ensures { result ≡ odd_at (model town.now) (marked set.now) v }
 {
-    let ends = (0..town.count).filter(|&k| has_one_end(town, set, k, v));
-    ends.count() % 2 == 1
+    (0..town.count).fold(false, |odd, k| odd != has_one_end(town, set, k, v))
 }
 
 // The first odd crossing.

@@ -27,7 +27,7 @@ impl Level {
         ensures leaves { Leaves (town_in prices.now.problem) (reached_in prices.now.problem) (lengths_at self.old) (potential_at self.old) (lengths_at self.new) (potential_at self.new) result }
     {
         classes.merge(&Weighted {
-            town: prices.problem.town,
+            town: prices.problem.streets.town,
             lengths: &self.lengths,
         });
         let contraction = Contraction {

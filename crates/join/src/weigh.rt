@@ -1,5 +1,6 @@
 // What sets of streets cost.
 ghost use Rattle.std.specs.Prelude.{◌≡◌, ◌<◌, ◌≤◌, true, pos, MatchOption, ◌==◌};
+ghost use Rattle.road.specs.Counts.{when};
 ghost use Rattle.road.specs.Model.{marked};
 ghost use Rattle.join.specs.Joins.{cost as costs, ◌⊞◌, single, Zero};
 ghost use Rattle.join.specs.Weights.{town_of, lengths_of};
@@ -24,13 +25,21 @@ impl Weighted<'_, '_> {
         self.length(k) == 0
     }
 
+    // The length of street k where it is in a set, and nothing where it is not.
+    fn length_in(&self, drives: &[bool; 300], k: usize) -> i64
+        requires { k < 300 }
+        ensures { result ≡ pos (when (marked drives.now k) (lengths_of self.now k)) }
+    {
+        let length = self.length(k);
+        if drives[k] { length } else { 0 }
+    }
+
     // What the streets of a set cost together.
     pub(crate) fn cost(&self, drives: &[bool; 300]) -> i64
         ensures is { result ≡ pos (costs (town_of self.now) (lengths_of self.now) (marked drives.now)) }
     {
         (0..self.town.count)
-            .filter(|&k| drives[k])
-            .map(|k| self.length(k))
+            .map(|k| self.length_in(drives, k))
             .sum()
     }
 

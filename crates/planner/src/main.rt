@@ -11,7 +11,7 @@ use std::alloc::Global;
 use std::process::ExitCode;
 use text::{Error, TownText, run};
 
-// Why a program stops that gets no plan.
+// Why a program stops that gets no plan. No `From`, since neither type is of this crate.
 fn stopped(e: NoPlan) -> Error {
     match e {
         NoPlan::Refused(refusal) => refusal.into(),

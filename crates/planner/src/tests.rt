@@ -54,14 +54,12 @@ const TOWNS: [(&str, &str); 4] = [
     ),
 ];
 
+// The other programs have such a loop too: one for all would stand in a library, and a library may not assert.
 #[test]
 fn texts(rt: HostRuntime) -> Result<(), Fail> {
     let heap = rt.alloc();
     for (text, expected) in TEXTS {
-        let said = match answer(heap, text) {
-            Ok(plan) => plan,
-            Err(e) => e.to_string(heap)?,
-        };
+        let said = answer(heap, text).or_else(|e| e.to_string(heap))?;
         assert_eq!(rt; said.as_str(), expected, "{}", text);
     }
     Ok(())
@@ -74,14 +72,15 @@ fn said_of_plan(heap: Global, town: &str) -> Result<Said, Error> {
     Ok(Said(RoundText::read(heap, text.as_str())?.word()?))
 }
 
+// The loop of `texts` over another table and another answer: a function for both would be longer than the two.
 #[test]
 fn plans_read_back(rt: HostRuntime) -> Result<(), Fail> {
     let heap = rt.alloc();
     for (town, expected) in TOWNS {
-        let said = match said_of_plan(heap, town) {
-            Ok(word) => word.to_string(heap)?,
-            Err(e) => e.to_string(heap)?,
-        };
+        let said = said_of_plan(heap, town).map_or_else(
+            |e| e.to_string(heap),
+            |word| word.to_string(heap),
+        )?;
         assert_eq!(rt; said.as_str(), expected, "{}", town);
     }
     Ok(())

@@ -10,22 +10,12 @@ use Rattle.road.specs.Growth.{Grown, unmarked}
 use Rattle.road.proofs.Sums.{sum_point}
 use Rattle.road.proofs.Reached.{across, reached_start, reached_closed}
 
--- the end of a cut street that is outside, if one is inside, and if it is not
-pub outer_two : (t : Town) (k : ℕ) (Z : Set) (s : Street) → s ≡ street t k → cut t Z k ≡ true → Z s.one ≡ true →
-    ((x : ℕ) × Side t k x s.two × (Z x ≡ true)) × (Z s.two ≡ false)
-outer_two t k Z s e c i = rw e ((one t k, forth, i'), other (Z (one t k)) (Z (two t k)) i' c)
-  where
-    i' : Z (one t k) ≡ true
-    i' = rw e at i
+-- the end of a street that is inside, where the first is, and where it is not
+pub outer_two : (t : Town) (k : ℕ) (Z : Set) (s : Street) → s ≡ street t k → Z s.one ≡ true → (x : ℕ) × Side t k x s.two × (Z x ≡ true)
+outer_two t k Z s e i = rw e (one t k, forth, rw e at i)
 
-    other : (a b : Bool) → a ≡ true → a ⊕ b ≡ true → b ≡ false
-    other true true p q = sym q
-    other true false p q = refl
-    other false b p q = absurd (both_ways false refl p)
-
-pub outer_one : (t : Town) (k : ℕ) (Z : Set) (s : Street) → s ≡ street t k → cut t Z k ≡ true → Z s.one ≡ false →
-    ((x : ℕ) × Side t k x s.one × (Z x ≡ true)) × (Z s.one ≡ false)
-outer_one t k Z s e c o = rw e ((two t k, back, other (Z (one t k)) (Z (two t k)) (rw e at o) c), rw e at o)
+pub outer_one : (t : Town) (k : ℕ) (Z : Set) (s : Street) → s ≡ street t k → cut t Z k ≡ true → Z s.one ≡ false → (x : ℕ) × Side t k x s.one × (Z x ≡ true)
+outer_one t k Z s e c o = rw e (two t k, back, other (Z (one t k)) (Z (two t k)) (rw e at o) c)
   where
     other : (a b : Bool) → a ≡ false → a ⊕ b ≡ true → b ≡ true
     other true b p q = absurd (both_ways true p refl)

@@ -9,7 +9,7 @@ use Rattle.road.specs.Numbers.{town_in}
 use Rattle.road.specs.First.{first, unless, ◌then◌}
 use Rattle.road.specs.Refusals.{town_refusal, numbers_refusal, streets_refusal, depot_refusal, reach_refusal}
 use Rattle.road.specs.Model.{model}
-use Rattle.road.specs.Laws.{CrossingsRule, NumbersRule, StreetRule, StreetsRule, Limits, Way, CrossingsRefused, NumbersRefused, StreetRefused, DepotRefused, UnreachedRefused, LegRefused, Taken, LetThrough, SoundTowns}
+use Rattle.road.specs.Laws.{CrossingsRule, NumbersRule, StreetRule, StreetsRule, Limits, Way, NumbersRefused, StreetRefused, DepotRefused, UnreachedRefused, LegRefused, Taken, LetThrough, SoundTowns}
 use Rattle.road.proofs.First.{Tests, tests_not, tests_and, tests_all, tests_first, unless_some, unless_none, then_none}
 use Rattle.road.proofs.Limits.{within_true, true_within}
 use Rattle.road.proofs.Models.{size_model, street_model}
@@ -177,9 +177,6 @@ module _ (n : ℕ) (xs : List ℕ) (depot : ℕ) where
       ),
     ),
   )
-
-pub crossings_refused : CrossingsRefused
-crossings_refused = crossings_at
 
 pub numbers_refused : NumbersRefused
 numbers_refused = numbers_at

@@ -1,6 +1,8 @@
 -- Streets as three numbers each. Assumes nothing.
-use Rattle.std.proofs.Common.{◌≡◌, ℕ, zero, suc, ◌/◌, ◌<◌, ◌≤◌, List, length, get_or, take, drop, sym, refl, map, [], ◌∷◌, ap, ap₂, ◌∙◌, arith}
-use Rattle.std.proofs.lemmas.List.{get_or_past, get_or-map, ext_get_or, get_or-take, length-take-le}
+use Rattle.std.proofs.Common.{◌≡◌, ℕ, zero, suc, ◌/◌, ◌<◌, ◌≤◌, List, length, get_or, take, drop, sym, refl, map, [], ◌∷◌, ap, ap₂, ◌∙◌, Option, Some, None, MatchOption, unwrap_or, arith}
+use Rattle.std.proofs.Math.ListN.{get_or-map}
+use Rattle.std.proofs.lemmas.List.{ext_get_or, get_or-take, length-take-le}
+use Rattle.std.specs.Option.{IsSomeAnd, UnwrapsOrElse}
 use Rattle.std.specs.Simd.{first_chunks}
 use Rattle.road.specs.Roads.{Street, street, no_street}
 use Rattle.road.specs.Counts.{size}
@@ -15,25 +17,26 @@ length_streets (suc n) xs = ap suc (length_streets n (drop 3 xs))
 pub size_in : (n : ℕ) (xs : List ℕ) → size (town_in n xs) ≡ length xs / 3
 size_in n xs = length_streets (length xs / 3) xs
 
--- past the last street of the numbers
-pub street_in_past : (n : ℕ) (xs : List ℕ) (k : ℕ) → length xs / 3 ≤ k → street (town_in n xs) k ≡ no_street
-unfolding street
-street_in_past n xs k h = get_or_past (streets_in (length xs / 3) xs) k no_street (omega (arith, length_streets (length xs / 3) xs))
-
 -- three numbers at a time
 chunk_street : (xs : List ℕ) → street_of (take 3 xs) ≡ street_of xs
 chunk_street xs = λ d. record { one = get_or-take 3 xs 0 0 (omega arith) d; two = get_or-take 3 xs 1 0 (omega arith) d; long = get_or-take 3 xs 2 0 (omega arith) d }
 
-pub chunk_streets : (m : ℕ) (xs : List ℕ) → map street_of (first_chunks 3 m xs) ≡ streets_in m xs
+chunk_streets : (m : ℕ) (xs : List ℕ) → map street_of (first_chunks 3 m xs) ≡ streets_in m xs
 unfolding streets_in
 chunk_streets zero xs = refl
 chunk_streets (suc m) xs = ap₂ (λ s ss. s ∷ ss) (chunk_street xs) (chunk_streets m (drop 3 xs))
 
-pub street_chunk : (n : ℕ) (xs : List ℕ) (yss : List (List ℕ)) → yss ≡ first_chunks 3 (length xs / 3) xs → length yss ≡ length xs / 3 → (k : ℕ) → k < length xs / 3 →
-    street (town_in n xs) k ≡ street_of (get_or yss k [])
+pub street_chunk : (n : ℕ) (xs : List ℕ) (yss : List (List ℕ)) → yss ≡ first_chunks 3 (length xs / 3) xs → (k : ℕ) → street (town_in n xs) k ≡ street_of (get_or yss k [])
 unfolding street
-street_chunk n xs yss e l k h =
-    ap (λ ss. get_or ss k no_street) (sym (chunk_streets (length xs / 3) xs) ∙ ap (map street_of) (sym e)) ∙ get_or-map street_of yss k [] no_street (omega arith)
+street_chunk n xs yss e k = ap (λ ss. get_or ss k no_street) (sym (chunk_streets (length xs / 3) xs) ∙ ap (map street_of) (sym e)) ∙ get_or-map street_of yss k []
+
+-- what `map` and `unwrap_or_default` give of a chunk that may be there
+pub street_or : (P : List ℕ → Street → Type 0) (D : Street → Type 0) (o : Option (List ℕ)) (r : Option Street) (s : Street) → MatchOption o (r ≡ None) (λ xs. IsSomeAnd r (P xs)) →
+    UnwrapsOrElse r D s → ((xs : List ℕ) (t : Street) → P xs t → t ≡ street_of xs) → ((t : Street) → D t → t ≡ no_street) → s ≡ street_of (unwrap_or o [])
+street_or P D None None s m u f d = d s u
+street_or P D None (Some t) s m u f d = cc
+street_or P D (Some xs) None s m u f d = absurd m
+street_or P D (Some xs) (Some t) s m u f d = u ∙ f xs t m
 
 -- streets that were read one by one are the streets of the numbers
 pub streets_read : (n : ℕ) (xs : List ℕ) (ss : List Street) → length xs / 3 ≤ length ss → ((k : ℕ) → k < length xs / 3 → get_or ss k no_street ≡ street (town_in n xs) k) →

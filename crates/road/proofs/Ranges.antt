@@ -1,21 +1,23 @@
 -- What chains over the numbers below a bound find, and how many they count. Assumes nothing.
-use Rattle.std.proofs.Common.{◌≡◌, ℕ, zero, suc, ◌+◌, ◌%◌, ◌<◌, ◌≤◌, Bool, true, false, ◌&&◌, List, [], ◌∷◌, length, filter, map, fold, take, Option, Some, None, MatchOption, ℤ, pos, ◌+ℤ◌, FitsSigned, w64, refl, sym, ap, ap₂, ◌∙◌, subst, ⊎_elim, eqb, map-id, zero-add, arith}
+use Rattle.std.proofs.Common.{◌≡◌, ℕ, zero, suc, ◌+◌, ◌%◌, ◌<◌, ◌≤◌, Bool, true, false, ◌&&◌, List, [], ◌∷◌, length, filter, map, fold, take, Option, Some, None, MatchOption, ℤ, pos, ◌+ℤ◌, FitsSigned, w64, refl, sym, ap, ap₂, ◌∙◌, subst, ⊎_elim, eqb, map-id, zero-add, arith, rules}
 use Rattle.std.proofs.iter.Yields.{nat_range_steps}
-use Rattle.std.proofs.iter.runs.Sources.{nat_range_steps_back}
-use Rattle.std.proofs.lemmas.Bool.{both_ways, cases_eq}
+use Rattle.std.proofs.iter.runs.Made.{at-is}
+use Rattle.std.proofs.iter.runs.Sources.{nat_range_steps_back, range_runs}
+use Rattle.std.proofs.lemmas.Bool.{both_ways, cases_eq, false_from_ne_true}
 use Rattle.std.proofs.lemmas.Int.{ints}
 use Rattle.std.proofs.lemmas.Iterator.{YieldsList, first_from_Range, YieldsList-from_range, YieldsList-from_map}
 use Rattle.std.proofs.lemmas.Iterator.Adapters.{total_from_yields_List}
-use Rattle.std.proofs.lemmas.Iterator.Consumers.{count_from_yields_List, YieldsList-at, YieldsList-from_filter, YieldsList-so_far}
-use Rattle.std.proofs.lemmas.List.Recursion.{is_sum_by}
+use Rattle.std.proofs.lemmas.Iterator.Consumers.{count_from_yields_List, YieldsList-from_filter, YieldsList-so_far}
 use Rattle.std.proofs.lemmas.List.Sums.{sum_by-cons}
+use Rattle.std.proofs.lemmas.Option.{slice_get_within}
 use Rattle.std.specs.Bool.{⊤}
 use Rattle.std.specs.Fn.{CalledAt}
 use Rattle.std.specs.Iterator.{CallableAtEachTurn, Drains, Yields, YieldsThen}
 use Rattle.std.specs.Iterator.Adapters.{filter_source, filter_callee, filter_steps, filter_map_source, filter_map_callee, filter_map_steps, rev_source, rev_steps, map_source, map_callee, map_steps}
-use Rattle.std.specs.Iterator.Runs.{EachRunFrom, YieldsRun}
+use Rattle.std.specs.Iterator.Runs.{AllItems, AnyItem, EachRunFrom, IsFilterMapRun, ItemsCountUp, Run, SomeRun, WholeRun, YieldsRun}
 use Rattle.std.specs.Option.{IsSome}
-use Rattle.std.specs.List.{FoldsTo, range_with_len, sum_by}
+use Rattle.std.specs.List.{FoldsTo, cons_option, filter_map, range_with_len, slice_get, sum_by}
+use Rattle.std.specs.Ordering.{int_cmp, is_lt}
 use Rattle.std.specs.declared.iter.Filter.{Filter}
 use Rattle.std.specs.declared.iter.FilterMap.{FilterMap}
 use Rattle.std.specs.declared.iter.Map.{Map}
@@ -52,24 +54,27 @@ range_broken {n = n} kept u r ran taken refused = at r (first_from_Range _ u _ r
     at None h = λ k. h k (omega arith)
     at (Some i) h = (h.1, h.2, λ k. h.3 k (omega arith))
 
--- the numbers of a range that pass a test, each with its weight
-total_from : (test : ℕ → Bool) (w : ℕ → ℕ) (a n : ℕ) → sum_by w (filter test (range_with_len a n)) ≡ sum n (λ k. when (test (a + k)) (w (a + k)))
+-- the numbers of a range, each with its weight
+total_from : (w : ℕ → ℕ) (a n : ℕ) → sum_by w (range_with_len a n) ≡ sum n (λ k. w (a + k))
 unfolding sum
-total_from test w a zero = refl
-total_from test w a (suc n) =
-    let f = λ (k : ℕ). when (test k) (w k) in
+total_from w a zero = refl
+total_from w a (suc n) =
     let z : a ≡ a + 0 = omega arith in
-    first (test a)
-    ∙ ap₂ (λ m k. m + k) (ap f z)
-    (total_from test w (a + 1) n ∙ sum_ext n (λ k. f (a + 1 + k)) (λ k. f (a + suc k)) (λ k _. let e : a + 1 + k ≡ a + suc k = omega arith in ap f e))
-    ∙ sym (sum_front n (λ k. f (a + k)))
-  where
-    first : (b : Bool) → sum_by w (cond b (a ∷ filter test (range_with_len (a + 1) n)) (filter test (range_with_len (a + 1) n))) ≡ when b (w a) + sum_by w (filter test (range_with_len (a + 1) n))
-    first true = sum_by-cons w a (filter test (range_with_len (a + 1) n))
-    first false = omega arith
+    sum_by-cons w a (range_with_len (a + 1) n)
+    ∙ ap₂ (λ m k. m + k) (ap w z) (total_from w (a + 1) n ∙ sum_ext n (λ k. w (a + 1 + k)) (λ k. w (a + suc k)) (λ k _. let e : a + 1 + k ≡ a + suc k = omega arith in ap w e))
+    ∙ sym (sum_front n (λ k. w (a + k)))
 
-pub total_below : (test : ℕ → Bool) (w : ℕ → ℕ) (n : ℕ) → sum_by w (filter test (range_with_len 0 n)) ≡ sum n (λ k. when (test k) (w k))
-total_below test w n = total_from test w 0 n ∙ sum_ext n (λ k. when (test (0 + k)) (w (0 + k))) (λ k. when (test k) (w k)) (λ k _. ap (λ j. when (test j) (w j)) (zero-add k))
+total_below : (w : ℕ → ℕ) (n : ℕ) → sum_by w (range_with_len 0 n) ≡ sum n w
+total_below w n = total_from w 0 n ∙ sum_ext n (λ k. w (0 + k)) w (λ k _. ap w (zero-add k))
+
+-- how many pass a test
+passed_by : (test : ℕ → Bool) (ks : List ℕ) → length (filter test ks) ≡ sum_by (λ k. bit (test k)) ks
+passed_by test [] = refl
+passed_by test (k ∷ ks) = first (test k) ∙ ap (λ m. bit (test k) + m) (passed_by test ks) ∙ sym (sum_by-cons (λ k. bit (test k)) k ks)
+  where
+    first : (b : Bool) → length (cond b (k ∷ filter test ks) (filter test ks)) ≡ bit b + length (filter test ks)
+    first true = omega arith
+    first false = omega arith
 
 -- `count` after `filter`, over the numbers below n
 pub count_below : {F : Type 0} {g : Mut F (Bor ℕ × Unit {0}) Bool} {s : Filter (Range ℕ) F} {f : F} {n r : ℕ} (test : ℕ → Bool) →
@@ -77,7 +82,7 @@ pub count_below : {F : Type 0} {g : Mut F (Bor ℕ × Unit {0}) Bool} {s : Filte
     ((x : ℕ) (b : Bool) (q : F) → CalledAt g f x b q → (q ≡ f) × (b ≡ test x)) → r ≡ sum n (λ k. bit (test k))
 count_below {s = s} {n = n} {r = r} test ran source callee pure =
     count_from_yields_List s r ran (YieldsList-from_filter _ test (YieldsList-from_range 0 n n source (omega arith)) callee pure)
-    ∙ is_sum_by length (λ _. 1) refl (λ _ _. omega arith) (filter test (range_with_len 0 n)) ∙ total_below test (λ _. 1) n
+    ∙ passed_by test (range_with_len 0 n) ∙ total_below (λ k. bit (test k)) n
 
 bit_one : (b : Bool) → eqb (bit b) 1 ≡ b
 bit_one true = refl
@@ -89,12 +94,14 @@ odd_count n {r = r} test e =
     ap (λ m. eqb m 1) (odd_mod r) ∙ bit_one (odd r) ∙ ap odd e ∙ odd_sum n (λ k. bit (test k)) ∙ par_ext n (λ k. odd (bit (test k))) test (λ k _. odd_bit (test k))
 
 -- where two tests are to hold
-pub count_both : (a b : ℕ → Bool) (n : ℕ) → sum n (λ k. bit (a k && b k)) ≡ sum n (λ k. when (a k) (bit (b k)))
-count_both a b n = sum_ext n (λ k. bit (a k && b k)) (λ k. when (a k) (bit (b k))) (λ k _. at (a k) (b k))
+pub count_both : (a b : ℕ → Bool) (n : ℕ) → sum n (λ k. bit (a k && b k)) ≡ sum n (λ k. when (b k) (bit (a k)))
+count_both a b n = sum_ext n (λ k. bit (a k && b k)) (λ k. when (b k) (bit (a k))) (λ k _. at (a k) (b k))
   where
-    at : (x y : Bool) → bit (x && y) ≡ when x (bit y)
-    at true y = refl
-    at false y = refl
+    at : (x y : Bool) → bit (x && y) ≡ when y (bit x)
+    at true true = refl
+    at true false = refl
+    at false true = refl
+    at false false = refl
 
 -- numbers that a closure refuses, from the last on
 module _ {F B : Type 0} (g : Mut F (ℕ × Unit {0}) (Option B)) (f : F) (No : ℕ → Type 0) (refused : (x : ℕ) (q : F) → Called g f (x, tt) None q → (q ≡ f) × No x) where
@@ -172,6 +179,53 @@ module _ {F B : Type 0} {g : Mut F (B × (ℕ × Unit {0})) B} {f : F} {init : B
       let last : end.0.start ≡ n = omega (arith, end.2.1.0, h.0, h.1) in
       subst (λ m. I m r) last h.3
 
+-- what `filter_map` gives of an item stands in its list
+given_at : {A B : Type 0} (h : A → Option B) (xs : List A) (j : ℕ) (x : A) (y : B) → slice_get xs j ≡ Some x → h x ≡ Some y → (i : ℕ) × (slice_get (filter_map h xs) i ≡ Some y)
+given_at h [] j x y e k = absurd cc
+given_at h (z ∷ xs) zero x y e k = (0, grind (arith, ap h, k, e))
+given_at h (z ∷ xs) (suc j) x y e k =
+    let r = given_at h xs j x y e k in
+    elim (h z) as (λ o. (i : ℕ) × (slice_get (cons_option o (filter_map h xs)) i ≡ Some y)) [ None ↦ r | Some a ↦ (suc r.0, r.1) ]
+
+-- `min` after `filter_map`, over the numbers below n: the least weight of those that pass a test
+module _ {F : Type 0} {g : Mut F (ℕ × Unit {0}) (Option ℤ)} {f : F} (n : ℕ) (test : ℕ → Bool) (w : ℕ → ℕ)
+    (gives : (x : ℕ) (r : Option ℤ) (q : F) → Called g f (x, tt) r q → (q ≡ f) × MatchOption r (test x ≡ false) (λ e. (test x ≡ true) × (e ≡ pos (w x)))) where
+  abbrev steps : FilterMap (Range ℕ) F → Option ℤ → FilterMap (Range ℕ) F → Type 0
+  steps = filter_map_steps nat_range_steps g
+
+  abbrev weight : ℕ → Option ℤ
+  weight k = cond (test k) (Some (pos (w k))) None
+
+  acts : (x : ℕ) (r : Option ℤ) (q : F) → Called g f (x, tt) r q → (q ≡ f) × (r ≡ weight x)
+  acts x r q e = search (rules, gives x r q e)
+
+  module _ (p : Run steps) (q : Run nat_range_steps) (from : q.from ≡ record { start = 0; end = n }) (whole : p.whole ≡ true) (of : IsFilterMapRun p q g f) where
+    abbrev numbers : ItemsCountUp q q.from.start q.from.end
+    numbers = range_runs q q.seen
+
+    number_at : (k : ℕ) → k < n → q.at k ≡ Some k
+    number_at k l =
+        let long : q.len ≡ n = omega (arith, numbers.1 (of.0 ∙ whole), ap (λ (r : Range ℕ). r.start) from, ap (λ (r : Range ℕ). r.end) from) in
+        search (rules, numbers.3 k)
+
+    weight_at : (k : ℕ) → k < n → test k ≡ true → (i : ℕ) × (p.at i ≡ Some (pos (w k)))
+    weight_at k l met =
+        let r = given_at weight q.items k k (pos (w k)) (sym (at-is q k) ∙ number_at k l) (rw met) in
+        (r.0, at-is p r.0 ∙ ap (λ xs. slice_get xs r.0) (of.3 weight acts) ∙ r.1)
+
+    least : (r : Option ℤ) → MatchOption r (p.len ≡ 0) (λ m. AnyItem p (λ x. x ≡ m) × AllItems p (λ x. is_lt (int_cmp x m) ≡ false)) →
+        MatchOption r ((k : ℕ) → k < n → test k ≡ false) (λ m. (k : ℕ) × (k < n) × (test k ≡ true) × (m ≡ pos (w k)) × ((j : ℕ) → j < n → test j ≡ true → w k ≤ w j))
+    least None h = λ k l. false_from_ne_true (test k) (λ met. let i = weight_at k l met in search (rules, h, p.long, at-is p i.0, i.1, slice_get_within))
+    least (Some m) h =
+        let i = of.2 (λ a r q e. (gives a.0 r q e).0) h.0.0 in
+        let d : (k : ℕ) × (k < n) × (test k ≡ true) × (m ≡ pos (w k)) = search (rules, gives, h.0.2, i, numbers.2) in
+        (d.0, d.1, d.2, d.3, λ j u met. let i = weight_at j u met in search (rules, ints, h.1 i.0, i.1, d.3))
+
+  pub least_below : {s : FilterMap (Range ℕ) F} (r : Option ℤ) → WholeRun steps s (λ p. MatchOption r (p.len ≡ 0) (λ m. AnyItem p (λ x. x ≡ m) × AllItems p (λ x. is_lt (int_cmp x m) ≡ false))) →
+      EachRunFrom steps s (λ p. SomeRun nat_range_steps (record { start = 0; end = n }) (λ q. IsFilterMapRun p q g f)) →
+      MatchOption r ((k : ℕ) → k < n → test k ≡ false) (λ m. (k : ℕ) × (k < n) × (test k ≡ true) × (m ≡ pos (w k)) × ((j : ℕ) → j < n → test j ≡ true → w k ≤ w j))
+  least_below r ran runs = let q = runs ran.0 ran.0.seen ran.1 in least ran.0 q.0 q.1 ran.2 q.2 r ran.3
+
 -- sums of signed numbers, none negative
 signed_front : (l : ℕ → ℕ) (a : ℕ) (ks : List ℕ) (m : ℕ) → (b : ℕ) × (fold ◌+ℤ◌ (pos a) (take m (map (λ k. pos (l k)) ks)) ≡ pos b) × (b ≤ a + sum_by l ks)
 signed_front l a ks zero = (a, refl, omega arith)
@@ -182,25 +236,24 @@ signed_all : (l : ℕ → ℕ) (a : ℕ) (ks : List ℕ) → fold ◌+ℤ◌ (po
 signed_all l a [] = let z : a ≡ a + 0 = omega arith in ap pos z
 signed_all l a (k ∷ ks) = let z : a + l k + sum_by l ks ≡ a + sum_by l (k ∷ ks) = omega (arith, sum_by-cons l k ks) in signed_all l (a + l k) ks ∙ ap pos z
 
--- the amounts of the numbers below n that pass a test, as a chain gives them
-module _ {F G : Type 0} {g : Mut F (Bor ℕ × Unit {0}) Bool} {h : Mut G (ℕ × Unit {0}) ℤ} {s : Map (Filter (Range ℕ) F) G} {t : Filter (Range ℕ) F} {f : F} {e : G} (n : ℕ) (test : ℕ → Bool) (l : ℕ → ℕ)
-    (range : filter_source t ≡ record { start = 0; end = n }) (filters : filter_callee t ≡ f) (passes : (x : ℕ) (b : Bool) (q : F) → CalledAt g f x b q → (q ≡ f) × (b ≡ test x))
-    (source : map_source s ≡ t) (maps_by : map_callee s ≡ e) (gives : (x : ℕ) (r : ℤ) (q : G) → Called h e (x, tt) r q → (q ≡ e) × (r ≡ pos (l x))) where
+-- the amounts of the numbers below n, as a chain gives them
+module _ {F : Type 0} {g : Mut F (ℕ × Unit {0}) ℤ} {s : Map (Range ℕ) F} {f : F} (n : ℕ) (l : ℕ → ℕ) (source : map_source s ≡ record { start = 0; end = n }) (maps_by : map_callee s ≡ f)
+    (gives : (x : ℕ) (r : ℤ) (q : F) → Called g f (x, tt) r q → (q ≡ f) × (r ≡ pos (l x))) where
   abbrev ks : List ℕ
-  ks = filter test (range_with_len 0 n)
+  ks = range_with_len 0 n
 
-  amounts : YieldsList (map_steps (filter_steps nat_range_steps g) h) (λ x. x) s (map (λ k. pos (l k)) ks)
-  amounts = YieldsList-from_map h (λ k. pos (l k)) (YieldsList-at source (YieldsList-from_filter g test (YieldsList-from_range 0 n n range (omega arith)) filters passes)) maps_by gives
+  amounts : YieldsList (map_steps nat_range_steps g) (λ x. x) s (map (λ k. pos (l k)) ks)
+  amounts = YieldsList-from_map g (λ k. pos (l k)) (YieldsList-from_range 0 n n source (omega arith)) maps_by gives
 
   -- their sum fits
-  pub signed_fits : sum n (λ k. when (test k) (l k)) ≤ 1200000000000 → EachRunFrom (map_steps (filter_steps nat_range_steps g) h) s (λ p. FitsSigned w64 (fold ◌+ℤ◌ (pos 0) p.items))
+  pub signed_fits : sum n l ≤ 1200000000000 → EachRunFrom (map_steps nat_range_steps g) s (λ p. FitsSigned w64 (fold ◌+ℤ◌ (pos 0) p.items))
   unfolding YieldsRun
   signed_fits most = λ p _ at.
-      let so_far = YieldsList-so_far amounts p.items p.gave.0.0 (subst (λ u. Yields (map_steps (filter_steps nat_range_steps g) h) u p.items p.gave.0.0) at p.gave.0.1) in
+      let so_far = YieldsList-so_far amounts p.items p.gave.0.0 (subst (λ u. Yields (map_steps nat_range_steps g) u p.items p.gave.0.0) at p.gave.0.1) in
       let b = signed_front l 0 ks (length p.items) in
-      let fits : FitsSigned w64 (pos b.0) = omega (arith, ints, total_below test l n) in
+      let fits : FitsSigned w64 (pos b.0) = omega (arith, ints, total_below l n) in
       subst (λ xs. FitsSigned w64 (fold ◌+ℤ◌ (pos 0) xs)) (sym so_far ∙ map-id p.items) (subst (FitsSigned w64) (sym b.1) fits)
 
   -- and is what they are together
-  pub signed_is : (r : ℤ) → (xs : List ℤ) × (⊤ → Drains (map_steps (filter_steps nat_range_steps g) h) s xs) × (r ≡ fold ◌+ℤ◌ (pos 0) xs) → r ≡ pos (sum n (λ k. when (test k) (l k)))
-  signed_is r ran = total_from_yields_List ◌+ℤ◌ (pos 0) r ran amounts ∙ signed_all l 0 ks ∙ ap pos (zero-add (sum_by l ks) ∙ total_below test l n)
+  pub signed_is : (r : ℤ) → (xs : List ℤ) × (⊤ → Drains (map_steps nat_range_steps g) s xs) × (r ≡ fold ◌+ℤ◌ (pos 0) xs) → r ≡ pos (sum n l)
+  signed_is r ran = total_from_yields_List ◌+ℤ◌ (pos 0) r ran amounts ∙ signed_all l 0 ks ∙ ap pos (zero-add (sum_by l ks) ∙ total_below l n)

@@ -1,8 +1,8 @@
 // A drive over a list of legs: whether it is one, which street it leaves out, and its length.
-ghost use Rattle.std.specs.Prelude.{◌≡◌, ◌+◌, ◌*◌, ◌<◌, ◌≤◌, true, false, length, replicate};
+ghost use Rattle.std.specs.Prelude.{◌≡◌, ◌*◌, ◌<◌, ◌≤◌, length};
 ghost use Rattle.road.specs.Roads.{from as begin_of, into as end_of, far};
 ghost use Rattle.road.specs.Counts.{all};
-ghost use Rattle.road.specs.Numbers.{leg_in, legs_in};
+ghost use Rattle.road.specs.Numbers.{legs_in};
 ghost use Rattle.road.specs.Refusals.{Answers, legs_refusal};
 ghost use Rattle.road.specs.Faults.{begins as begins_at, leg_fault, street_fault, fault, Finds, Driven as Drove};
 ghost use Rattle.road.specs.Model.{model, marked};

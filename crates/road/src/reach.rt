@@ -1,5 +1,5 @@
 // What can be come to from the depot: marks of crossings, grown until nothing changes.
-ghost use Rattle.std.specs.Prelude.{◌≡◌, ℕ, ◌<◌, true, false, replicate, slice_set};
+ghost use Rattle.std.specs.Prelude.{◌≡◌, ℕ, ◌<◌, true, false};
 ghost use Rattle.road.specs.Counts.{cut, Side};
 ghost use Rattle.road.specs.Reach.{reached};
 ghost use Rattle.road.specs.Model.{model, marked};

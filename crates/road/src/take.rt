@@ -1,8 +1,8 @@
 // A town taken from numbers, or turned away.
-ghost use Rattle.std.specs.Prelude.{◌≡◌, ℕ, ◌/◌, ◌<◌, ◌≤◌, length, take, replicate};
-ghost use Rattle.road.specs.Roads.{no_street, street};
+ghost use Rattle.std.specs.Prelude.{◌≡◌, ℕ, ◌/◌, ◌<◌, ◌≤◌, length, take};
+ghost use Rattle.road.specs.Roads.{street};
 ghost use Rattle.road.specs.Limits.{Within, within};
-ghost use Rattle.road.specs.Numbers.{street_of, streets_in, town_in};
+ghost use Rattle.road.specs.Numbers.{streets_in, town_in};
 ghost use Rattle.road.specs.Refusals.{Answers, crossings_refusal, numbers_refusal, streets_refusal, depot_refusal, town_refusal};
 ghost use Rattle.road.specs.Model.{model};
 
@@ -42,10 +42,11 @@ fn street_at(numbers: &[u64], k: usize) -> Street
     ensures { (n : ℕ) → result ≡ street (town_in n numbers.now) k }
 {
     let (streets, _) = numbers.as_chunks::<3>();
-    match streets.get(k) {
-        Some(street) => Street::from(*street),
-        None => Street::default(),
-    }
+    streets
+        .get(k)
+        .copied()
+        .map(Street::from)
+        .unwrap_or_default()
 }
 
 fn check_streets(crossings: usize, numbers: &[u64]) -> Result<(), Refusal>

@@ -1,8 +1,7 @@
 // A round and a sheet written as numbers into a room that is lent.
-ghost use Rattle.std.specs.Prelude.{◌≡◌, ℕ, ◌+◌, ◌*◌, ◌^◌, ◌<◌, ◌≤◌, not, map, length, pos, All};
+ghost use Rattle.std.specs.Prelude.{◌≡◌, ℕ, ◌+◌, ◌*◌, ◌^◌, ◌<◌, ◌≤◌, not, map, length, All};
 ghost use Rattle.road.specs.Counts.{bit};
 ghost use Rattle.road.specs.Model.{marked};
-ghost use Rattle.join.specs.Amounts.{amount};
 ghost use Rattle.join.specs.Certified.{sheet_of};
 ghost use Rattle.round.specs.Rooms.{leg_number, part_numbers, sheet_numbers, part_of, AllMarked, over};
 

@@ -1,5 +1,5 @@
 -- What the checker's words mean. Assumes nothing.
-use Rattle.std.proofs.Common.{◌≡◌, ℕ, ◌+◌, ◌*◌, ◌/◌, ◌%◌, ◌<◌, Bool, true, false, not, eqb, leb, ◌⊎◌, ◌↔◌, List, length, get_or, Some, None, Ok, Option, sym, refl, ap, ◌∙◌, ap₂, inl, inr, ⊎_elim, arith}
+use Rattle.std.proofs.Common.{◌≡◌, ℕ, ◌+◌, ◌*◌, ◌/◌, ◌%◌, ◌<◌, Bool, true, false, not, eqb, leb, ◌⊎◌, ◌↔◌, List, length, get_or, Some, None, Ok, Option, sym, refl, ap, ◌∙◌, ap₂, inl, inr, ⊎_elim}
 use Rattle.std.proofs.lemmas.Bool.{leb-true, le-leb, eqb-true, eq-eqb, ne_eqb, eqb-false}
 use Rattle.road.specs.declared.fault.Fault.{Fault}
 use Rattle.road.specs.declared.leg.Leg.{Leg}
@@ -39,28 +39,25 @@ tests_bears t ps k = (leb-true (load ps (street t k)) (2 * (street t k).long), l
 -- an agreement that is tested, and the word that comes of it
 from_shortest : (b : Bool) (far bound n : ℕ) → pick b (Shortest far) (Apart far bound) ≡ Shortest n → (b ≡ true) × (n ≡ far)
 from_shortest true far bound n e = (refl, cc)
-from_shortest false far bound n e = let z : ◌≡◌ {A = ℕ} 0 1 = cc in absurd (omega arith)
+from_shortest false far bound n e = cc
 
 from_apart : (b : Bool) (far bound n m : ℕ) → pick b (Shortest far) (Apart far bound) ≡ Apart n m → (b ≡ false) × (n ≡ far) × (m ≡ bound)
-from_apart true far bound n m e = let z : ◌≡◌ {A = ℕ} 0 1 = cc in absurd (omega arith)
+from_apart true far bound n m e = cc
 from_apart false far bound n m e = (refl, cc, cc)
 
 -- neither is a fault
 not_fault : (b : Bool) (far bound : ℕ) (f : Fault) → pick b (Shortest far) (Apart far bound) ≡ NoRound f → ⊥
-not_fault true far bound f e = let z : ◌≡◌ {A = ℕ} 0 1 = cc in omega arith
-not_fault false far bound f e = let z : ◌≡◌ {A = ℕ} 0 1 = cc in omega arith
+not_fault true far bound f e = cc
+not_fault false far bound f e = cc
 
 not_sheet_fault : (b : Bool) (far bound : ℕ) (f : SheetFault) → pick b (Shortest far) (Apart far bound) ≡ NoSheet f → ⊥
-not_sheet_fault true far bound f e = let z : ◌≡◌ {A = ℕ} 0 1 = cc in omega arith
-not_sheet_fault false far bound f e = let z : ◌≡◌ {A = ℕ} 0 1 = cc in omega arith
+not_sheet_fault true far bound f e = cc
+not_sheet_fault false far bound f e = cc
 
 -- a fault or none
 either : {A : Type 0} (o : Option A) → ((f : A) × (o ≡ Some f)) ⊎ (o ≡ None)
 either (Some f) = inl (f, refl)
 either None = inr refl
-
-some_none : {A : Type 0} (o : Option A) (f : A) → o ≡ Some f → o ≡ None → ⊥
-some_none o f e g = let z : ◌≡◌ {A = ℕ} 0 1 = cc in omega arith
 
 module _ (t : Town) (ps : List Part) where
   abbrev odd_at : ℕ → Bool
@@ -104,40 +101,28 @@ module _ (t : Town) (ps : List Part) where
       let at = tests_first (length ps) odd_at i in
       let rule = tests_not (odd_at i) (Odd t ps i) (tests_odd t ps i) in (
         λ e. ⊎_elim
-            (λ p. let f = at.0 (p.0, place p.1) in (f.0, rule.0 f.1, λ j h. (tests_odd t ps j).0 (f.2 j h)))
-            (λ p. absurd (never (unless_some (leb (size t) heavy) (AtStreet heavy) (AtPart i) p.1).1))
+            (λ p. let f = at.0 (p.0, cc p.1) in (f.0, rule.0 f.1, λ j h. (tests_odd t ps j).0 (f.2 j h)))
+            (λ p. cc (unless_some (leb (size t) heavy) (AtStreet heavy) (AtPart i) p.1).1)
             (then_some (leb (length ps) part) (AtPart part) (AtPart i) (load_fault t ps) e),
         λ r.
             let f = at.1 (r.0, rule.1 r.1, λ j h. (tests_odd t ps j).1 (r.2 j h)) in
             ap₂ (λ (b : Bool) (k : ℕ). unless b (AtPart k) then load_fault t ps) f.0 (sym f.1),
       )
-    where
-      place : AtPart part ≡ AtPart i → i ≡ part
-      place e = cc
-
-      never : AtStreet heavy ≡ AtPart i → ⊥
-      never e = let z : ◌≡◌ {A = ℕ} 0 1 = cc in omega arith
 
   at_street : (k : ℕ) → (sheet_fault t ps ≡ Some (AtStreet k)) ↔ (((i : ℕ) → i < length ps → Odd t ps i) × (k < size t) × (Bears t ps k → ⊥) × ((j : ℕ) → j < k → Bears t ps j))
   at_street k =
       let at = tests_first (size t) bears_at k in
       let rule = tests_not (bears_at k) (Bears t ps k) (tests_bears t ps k) in (
-        λ e. ⊎_elim (λ p. absurd (never p.1))
+        λ e. ⊎_elim (λ p. cc p.1)
             (λ p.
             let q = unless_some (leb (size t) heavy) (AtStreet heavy) (AtStreet k) p.1 in
-            let f = at.0 (q.0, place q.1) in
+            let f = at.0 (q.0, cc q.1) in
             (tests_parts.0 p.0, f.0, rule.0 f.1, λ j h. (tests_bears t ps j).0 (f.2 j h)))
             (then_some (leb (length ps) part) (AtPart part) (AtStreet k) (load_fault t ps) e),
         λ r.
             let f = at.1 (r.1, rule.1 r.2, λ j h. (tests_bears t ps j).1 (r.3 j h)) in
             ap₂ (λ (b : Bool) (o : Option SheetFault). unless b (AtPart part) then o) (tests_parts.1 r.0) (ap₂ (λ (b : Bool) (j : ℕ). unless b (AtStreet j)) f.0 (sym f.1)),
       )
-    where
-      place : AtStreet heavy ≡ AtStreet k → k ≡ heavy
-      place e = cc
-
-      never : AtPart part ≡ AtStreet k → ⊥
-      never e = let z : ◌≡◌ {A = ℕ} 0 1 = cc in omega arith
 
 module _ (t : Town) (depot : ℕ) (ls : List Leg) (ps : List Part) where
   abbrev o : Option Fault
@@ -169,8 +154,8 @@ module _ (t : Town) (depot : ℕ) (ls : List Leg) (ps : List Part) where
   )
     where
       to : Came o s w (Shortest n) → Round t depot ls × Sheet t ps × Agree t ls ps × (n ≡ far t ls)
-      to (round f eo e) = let z : ◌≡◌ {A = ℕ} 0 1 = cc in absurd (omega arith)
-      to (sheet f eo es e) = let z : ◌≡◌ {A = ℕ} 0 1 = cc in absurd (omega arith)
+      to (round f eo e) = cc
+      to (sheet f eo es e) = cc
       to (both eo es e) =
           let p = from_shortest agree (far t ls) bound n e in
           ((fault_round t depot ls).0 eo, (is_sheet t ps).0 es, eqb-true (2 * far t ls) (shown t ps) p.0, p.1)
@@ -182,8 +167,8 @@ module _ (t : Town) (depot : ℕ) (ls : List Leg) (ps : List Part) where
   )
     where
       to : Came o s w (Apart n m) → Round t depot ls × Sheet t ps × (Agree t ls ps → ⊥) × (n ≡ far t ls) × (m ≡ bound)
-      to (round f eo e) = let z : ◌≡◌ {A = ℕ} 0 1 = cc in absurd (omega arith)
-      to (sheet f eo es e) = let z : ◌≡◌ {A = ℕ} 0 1 = cc in absurd (omega arith)
+      to (round f eo e) = cc
+      to (sheet f eo es e) = cc
       to (both eo es e) =
           let p = from_apart agree (far t ls) bound n m e in
           ((fault_round t depot ls).0 eo, (is_sheet t ps).0 es, eqb-false (2 * far t ls) (shown t ps) p.0, p.1, p.2)
@@ -196,12 +181,12 @@ module _ (t : Town) (depot : ℕ) (ls : List Leg) (ps : List Part) where
         where
           same : NoRound g ≡ NoRound f → g ≡ f
           same q = cc
-      to (sheet g eo es e) = let z : ◌≡◌ {A = ℕ} 0 1 = cc in absurd (omega arith)
+      to (sheet g eo es e) = cc
       to (both eo es e) = absurd (not_fault agree (far t ls) bound f e)
 
   not_round_if : ((f : Fault) × (judged t depot ls ps ≡ NoRound f)) ↔ (Round t depot ls → ⊥)
   not_round_if = (
-    λ p r. some_none o p.0 ((no_round_if p.0).0 p.1) ((fault_round t depot ls).1 r),
+    λ p r. cc ((no_round_if p.0).0 p.1, (fault_round t depot ls).1 r),
     λ n. ⊎_elim (λ p. (p.0, (no_round_if p.0).1 p.1)) (λ e. absurd (n ((fault_round t depot ls).0 e))) (either o),
   )
 
@@ -209,7 +194,7 @@ module _ (t : Town) (depot : ℕ) (ls : List Leg) (ps : List Part) where
   no_sheet_if f = (λ e. to (came o s w (NoSheet f) e), λ r. round_right r.0 f r.1)
     where
       to : Came o s w (NoSheet f) → Round t depot ls × (s ≡ Some f)
-      to (round g eo e) = let z : ◌≡◌ {A = ℕ} 0 1 = cc in absurd (omega arith)
+      to (round g eo e) = cc
       to (sheet g eo es e) = ((fault_round t depot ls).0 eo, es ∙ ap Some (same e))
         where
           same : NoSheet g ≡ NoSheet f → g ≡ f
@@ -218,7 +203,7 @@ module _ (t : Town) (depot : ℕ) (ls : List Leg) (ps : List Part) where
 
   not_sheet_if : ((f : SheetFault) × (judged t depot ls ps ≡ NoSheet f)) ↔ (Round t depot ls × (Sheet t ps → ⊥))
   not_sheet_if = (
-    λ p. let r = (no_sheet_if p.0).0 p.1 in (r.0, λ q. some_none s p.0 r.1 ((is_sheet t ps).1 q)),
+    λ p. let r = (no_sheet_if p.0).0 p.1 in (r.0, λ q. cc (r.1, (is_sheet t ps).1 q)),
     λ r. ⊎_elim (λ p. (p.0, (no_sheet_if p.0).1 (r.0, p.1))) (λ e. absurd (r.1 ((is_sheet t ps).0 e))) (either s),
   )
 

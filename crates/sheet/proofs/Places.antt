@@ -1,5 +1,5 @@
 -- Parts as numbers: what stands at which place. Assumes nothing.
-use Rattle.std.proofs.Common.{◌≡◌, ℕ, zero, suc, ◌+◌, ◌*◌, ◌/◌, ◌<◌, Bool, false, not, ltb, List, [], ◌∷◌, length, get_or, take, drop, sym, refl, ap, ◌∙◌, ap₂, mul-le-mul_right, suc-mul, zero-mul, div-mul-le_self, arith}
+use Rattle.std.proofs.Common.{◌≡◌, ℕ, zero, suc, ◌+◌, ◌*◌, ◌<◌, Bool, false, not, ltb, List, [], ◌∷◌, length, get_or, take, drop, sym, refl, ap, ◌∙◌, ap₂, suc-mul, zero-mul, arith}
 use mathlib.Core.Bool.{beq}
 use Rattle.std.proofs.lemmas.List.{drop-drop, get_or-drop, get_or-take}
 use Rattle.road.specs.declared.street.Street.{Street}
@@ -27,10 +27,6 @@ part_at (suc m) n xs (suc i) h =
     part_at m n (drop (1 + n) xs) i (omega arith)
     ∙ ap (front n) (drop-drop (i * (1 + n)) (1 + n) xs ∙ ap (λ a. drop a xs) (omega (arith, suc-mul i (1 + n))))
 
--- the last number of a part is one of the list
-pub part_room : (m n i : ℕ) → i < m → i * (1 + n) + n < m * (1 + n)
-part_room m n i h = omega (arith, suc-mul i (1 + n), mul-le-mul_right (1 + n) h)
-
 getD_marks : (xs : List ℕ) (v : ℕ) → get_or (marks_in xs) v false ≡ ltb 0 (get_or xs v 0)
 getD_marks [] v = refl
 getD_marks (x ∷ xs) zero = refl
@@ -48,10 +44,6 @@ mark_at m n xs i a v h e l =
     ∙ getD_marks (take n (drop 1 (drop (i * (1 + n)) xs))) v
     ∙ ap (ltb 0) (get_or-take n (drop 1 (drop (i * (1 + n)) xs)) v 0 l ∙ get_or-drop 1 (drop (i * (1 + n)) xs) v 0 ∙ get_or-drop (i * (1 + n)) xs (1 + v) 0 ∙ ap (λ z. get_or xs z 0) (omega arith))
     )
-
--- a place of a whole part is one of the list
-pub place_low : (n : ℕ) (xs : List ℕ) (i : ℕ) → i < length xs / (1 + n) → i * (1 + n) + n < length xs
-place_low n xs i h = omega (arith, part_room (length xs / (1 + n)) n i h, div-mul-le_self (length xs) (1 + n))
 
 -- a street leads out if the marks of its ends differ
 pub leads_is : (ms : List Bool) (s s' : Street) (a b : Bool) → a ≡ marked ms s.one → b ≡ marked ms s.two → s ≡ s' → not (beq a b) ≡ leads_out ms s'

@@ -118,13 +118,9 @@ mod tests {
         );
     }
 
-    // What only looks right.
     #[test]
-    fn looks_right(rt: HostRuntime) {
+    fn two_rows(rt: HostRuntime) {
         let grid = TWO_ROWS.as_flattened();
-        let parallel = PARALLEL.as_flattened();
-        let complete = FOUR_COMPLETE.as_flattened();
-        let complete_legs = [0, 1, 2, 7, 8, 11, 10, 5];
         assert_eq!(rt;
             check_round(
                 6,
@@ -135,7 +131,11 @@ mod tests {
             ),
             Ok(Word::Shortest(8))
         );
-        // A street whose ends are one crossing makes no crossing odd.
+    }
+
+    // A street whose ends are one crossing makes no crossing odd.
+    #[test]
+    fn loops(rt: HostRuntime) {
         assert_eq!(rt;
             check_round(2, LOOP.as_flattened(), 0, &[0, 2, 1], &[8, 0, 1]),
             Ok(Word::Shortest(11))
@@ -144,7 +144,12 @@ mod tests {
             check_round(2, &[0, 1, 4, 0, 1, 4, 1, 1, 3], 0, &[0, 4, 3], &[1, 0, 1]),
             no_sheet(SheetFault::Part(0))
         );
-        // Two streets with the same ends are two.
+    }
+
+    // Two streets with the same ends are two.
+    #[test]
+    fn parallel_streets(rt: HostRuntime) {
+        let parallel = PARALLEL.as_flattened();
         assert_eq!(rt;
             check_round(2, parallel, 0, &[0, 1], &[]),
             no_round(Fault::Street(1))
@@ -153,19 +158,19 @@ mod tests {
             check_round(2, parallel, 0, &[0, 1, 2, 5], &[4, 0, 1]),
             Ok(Word::Shortest(12))
         );
-        // Weights of whole metres fall short where halves are needed.
+    }
+
+    // Weights of whole metres fall short where halves are needed.
+    #[test]
+    fn halves(rt: HostRuntime) {
+        let complete = FOUR_COMPLETE.as_flattened();
+        let legs = [0, 1, 2, 7, 8, 11, 10, 5];
         assert_eq!(rt;
-            check_round(4, complete, 0, &complete_legs, &[2, 1, 0, 0, 0]),
+            check_round(4, complete, 0, &legs, &[2, 1, 0, 0, 0]),
             Ok(Word::Apart(8, 7))
         );
         assert_eq!(rt;
-            check_round(
-                4,
-                complete,
-                0,
-                &complete_legs,
-                &[2, 1, 0, 0, 0, 2, 0, 1, 0, 0],
-            ),
+            check_round(4, complete, 0, &legs, &[2, 1, 0, 0, 0, 2, 0, 1, 0, 0]),
             no_sheet(SheetFault::Street(0))
         );
     }

@@ -25,6 +25,7 @@ pub fn numbered(refusal: Refusal) -> (u64, u64)
     }
 }
 
+// By hand: a derive writes words beside the cases, and these are declared in a crate that has no words.
 impl fmt::Display for RefusalWords {
     fn fmt<W: fmt::Write>(&self, f: &mut fmt::Formatter<W>) -> fmt::Result {
         let (number, place) = numbered(self.0);

@@ -3,10 +3,7 @@ use Rattle.std.proofs.Common.{false, [], ◌∷◌, ◌++◌, refl, ◌∙◌, a
 use Rattle.road.specs.declared.Leg.{Leg}
 use Rattle.road.specs.Roads.{stay, go, from, into, far}
 use Rattle.road.proofs.Drives.{drive_append, far_append, turned_round, drive_turned, far_turned}
-use Rattle.ways.specs.Laws.{LeastUnique, LeastSelf, LeastTurned, LeastThrough, LeastStreet}
-
-pub least_unique : LeastUnique
-least_unique t v w d e p q = omega (arith, p.least q.some.0 q.some.1, q.some.2, q.least p.some.0 p.some.1, p.some.2)
+use Rattle.ways.specs.Laws.{LeastSelf, LeastTurned, LeastThrough, LeastStreet}
 
 pub least_self : LeastSelf
 unfolding far

@@ -1,8 +1,8 @@
 -- A way made shorter over one leg. Assumes nothing.
-use Rattle.std.proofs.Common.{◌≡◌, ℕ, ◌+◌, ◌-◌, ◌*◌, ◌<◌, ◌≤◌, Bool, true, false, ◌||◌, List, [], ◌∷◌, ◌++◌, length, get_or, replicate, is_some, Some, None, vec_items, Option, sym, refl, ap, ◌∙◌, subst, ⊎_elim, arith}
+use Rattle.std.proofs.Common.{◌≡◌, ℕ, ◌+◌, ◌-◌, ◌*◌, ◌<◌, ◌≤◌, true, List, [], ◌∷◌, ◌++◌, length, get_or, replicate, is_some, Some, None, vec_items, Option, sym, refl, ap, ◌∙◌, subst, ⊎_elim, arith}
 use Rattle.std.specs.Vec.{with_item}
 use Rattle.std.proofs.lemmas.List.{length-set, length-replicate, get_or-replicate, get_or_past, get_or-set_same, get_or-set_other}
-use Rattle.std.proofs.lemmas.Bool.{cases_eq, cases_lt, both_ways, ltb-true}
+use Rattle.std.proofs.lemmas.Bool.{cases_eq, cases_lt, ltb-true}
 use Rattle.road.specs.declared.Leg.{Leg}
 use Rattle.road.specs.Roads.{Town, Drive, stay, street, from, into, far}
 use Rattle.road.specs.Counts.{bit, sum, size}
@@ -12,7 +12,7 @@ use Rattle.road.proofs.Drives.{drive_push, far_push}
 use Rattle.ways.specs.declared.way.Way.{Way}
 use Rattle.ways.specs.declared.ways.Ways.{Ways}
 use Rattle.ways.specs.Shown.{to, Drives}
-use Rattle.ways.specs.Relaxed.{shorter, AtMost, come, Come, weight, weights, Near, Closed, Tried}
+use Rattle.ways.specs.Relaxed.{shorter, AtMost, come, Come, weight, weights}
 
 -- with w as the way to y
 abbrev pub with_way : Ways → ℕ → Way → Ways
@@ -148,42 +148,7 @@ come_start t ws w most blank below none stays = record {
     other : (v : ℕ) (o : Way) → to (with_way ws s w) v ≡ Some o → (v ≡ s → ⊥) → ⊥
     other v o e ne =
         let f : None ≡ Some o = sym (nowhere v) ∙ ap (λ (xs : List (Option Way)). get_or xs v None) (sym blank) ∙ sym (get_or-set_other items s v (Some w) None ne) ∙ e in
-        let z : ◌≡◌ {A = ℕ} 0 1 = cc in
-        omega arith
+        cc
 
     staying : Drives t s s w
     staying = record { drive = subst (λ (ls : List Leg). Drive t s ls s) (sym stays) (stay s); long = ap (far t) stays ∙ sym none }
-
--- no attempt makes a way longer
-tried_le : (a b : Ways) (m : Bool) (N : Type 0) → Tried a b m N → weights b ≤ weights a
-tried_le a b true N s = omega (arith, s.less refl)
-tried_le a b false N s = omega (arith, ap weights (s.same refl).0)
-
--- one attempt after another
-tried_then : (a b c : Ways) (m n : Bool) (M N R : Type 0) → Tried a b m M → Tried b c n N → (c ≡ b → M → N → R) → Tried a c (m || n) R
-tried_then a b c true n M N R p q r =
-    record { start = q.start ∙ p.start; less = λ _. omega (arith, p.less refl, tried_le b c n N q); same = λ e. absurd (both_ways true e refl) }
-tried_then a b c false true M N R p q r =
-    record { start = q.start ∙ p.start; less = λ _. omega (arith, q.less refl, ap weights (p.same refl).0); same = λ e. absurd (both_ways true e refl) }
-tried_then a b c false false M N R p q r =
-    record {
-      start = q.start ∙ p.start;
-      less = λ e. absurd (both_ways false refl e);
-      same = λ _. ((q.same refl).0 ∙ (p.same refl).0, r (q.same refl).0 (p.same refl).1 (q.same refl).1);
-    }
-
--- both legs over one street more
-closed_more : (t : Town) (ws : Ways) (k : ℕ) → Closed t ws k → Near t ws (record { by = k; back = false }) → Near t ws (record { by = k; back = true }) → Closed t ws (k + 1)
-closed_more t ws k before there back j b h = ⊎_elim (λ e. subst (λ i. Near t ws (record { by = i; back = b })) (sym e) (here b)) (λ ne. before j b (omega arith)) (cases_eq j k)
-  where
-    here : (b : Bool) → Near t ws (record { by = k; back = b })
-    here true = back
-    here false = there
-
-pub tried_street : (t : Town) (a b c d : Ways) (k : ℕ) (m n o : Bool) → Tried a b m (Closed t b k) → Tried b c n (Near t b (record { by = k; back = false })) →
-    Tried c d o (Near t c (record { by = k; back = true })) → Tried a d ((m || n) || o) (Closed t d (k + 1))
-tried_street t a b c d k m n o before there back =
-    tried_then a c d (m || n) o (Closed t c k × Near t c (record { by = k; back = false })) (Near t c (record { by = k; back = true })) (Closed t d (k + 1))
-    (tried_then a b c m n (Closed t b k) (Near t b (record { by = k; back = false })) (Closed t c k × Near t c (record { by = k; back = false })) before there
-    (λ e p q. (subst (λ (ws : Ways). Closed t ws k) (sym e) p, subst (λ (ws : Ways). Near t ws (record { by = k; back = false })) (sym e) q)))
-    back (λ e p q. subst (λ (ws : Ways). Closed t ws (k + 1)) (sym e) (closed_more t c k p.0 p.1 q))

@@ -14,10 +14,6 @@ at_most_le : (o : Option Way) (m n : ℕ) → m ≤ n → AtMost o m → AtMost 
 at_most_le None m n h a = a
 at_most_le (Some w) m n h a = omega arith
 
--- a way of a least length is a way of that length
-some_length : (m d : ℕ) → Some m ≡ Some d → m ≡ d
-some_length m d e = cc
-
 module _ (t : Town) (ws : Ways) (closed : Closed t ws (size t)) where
   over : (v n : ℕ) (l : Leg) → l.by < size t → from t l ≡ v → AtMost (to ws v) n → AtMost (to ws (into t l)) (n + (street t l.by).long)
   over v n l h e a = at (to ws v) refl a
@@ -41,8 +37,8 @@ module _ (t : Town) (ws : Ways) (closed : Closed t ws (size t)) where
 
     shown : (o : Option Way) → to ws u ≡ o → Shows t ws.start u o
     shown None e = record {
-      drives = λ w q. let z : ◌≡◌ {A = ℕ} 0 1 = cc in absurd (omega arith);
-      least = λ d. (λ q. let z : ◌≡◌ {A = ℕ} 0 1 = cc in absurd (omega arith), λ l. absurd (apart l.some.0 l.some.1));
+      drives = λ w q. cc;
+      least = λ d. (λ q. cc, λ l. absurd (apart l.some.0 l.some.1));
       none = (λ _. apart, λ _. refl);
     }
       where
@@ -51,10 +47,10 @@ module _ (t : Town) (ws : Ways) (closed : Closed t ws (size t)) where
     shown (Some w) e = record {
       drives = λ o q. c.ways u o (e ∙ q);
       least = λ d. (
-        λ q. record { some = (vec_items w.legs, this.drive, this.long ∙ some_length w.length d q); least = λ ls r. omega (arith, some_length w.length d q, low ls r) },
+        λ q. let e : w.length ≡ d = cc in record { some = (vec_items w.legs, this.drive, this.long ∙ e); least = λ ls r. omega (arith, low ls r) },
         λ l. ap Some (omega (arith, low l.some.0 l.some.1, l.some.2, l.least (vec_items w.legs) this.drive, this.long)),
       );
-      none = (λ q. let z : ◌≡◌ {A = ℕ} 0 1 = cc in absurd (omega arith), λ apart. absurd (apart (vec_items w.legs) this.drive));
+      none = (λ q. cc, λ apart. absurd (apart (vec_items w.legs) this.drive));
     }
       where
         this : Drives t ws.start u w

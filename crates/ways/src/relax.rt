@@ -1,5 +1,5 @@
 // Ways made shorter street by street, until none gets shorter.
-ghost use Rattle.std.specs.Prelude.{◌≡◌, ◌+◌, ◌<◌, true, false, [], ◌∷◌, ◌++◌, replicate, IfOk, None, OnOk};
+ghost use Rattle.std.specs.Prelude.{◌≡◌, ◌+◌, ◌<◌, [], ◌∷◌, ◌++◌, replicate, IfOk, None, OnOk};
 ghost use Rattle.road.specs.Model.{model};
 ghost use Rattle.ways.specs.Relaxed.{shorter, Come, Near, Closed, Tried};
 
@@ -77,9 +77,8 @@ impl Ways {
     {
         let mut more = false;
         for k in 0..town.count {
-            let there = self.come_over(town, Leg { by: k, back: false }, heap)?;
-            let back = self.come_over(town, Leg { by: k, back: true }, heap)?;
-            more = more | there | back;
+            more |= self.come_over(town, Leg { by: k, back: false }, heap)?;
+            more |= self.come_over(town, Leg { by: k, back: true }, heap)?;
         }
         Ok(more)
     }

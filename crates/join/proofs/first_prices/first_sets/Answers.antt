@@ -4,11 +4,8 @@ use Rattle.road.specs.Model.{marked}
 use Rattle.join.specs.Amounts.{amount}
 use Rattle.join.specs.Joins.{Joins, cost}
 use Rattle.join.specs.Problems.{town_in, costs_in, start_in}
-use Rattle.join.proofs.Starting.{begun_none, begun_more}
+use Rattle.join.proofs.Starting.{begun_more}
 use Rattle.join.proofs.first_prices.first_sets.Goals as goal
-
-pub loop-u-init : goal.loop-u-init
-loop-u-init c = begun_none c.args.problem.now _ c.new-extra.ensures.items
 
 pub loop-u-preserved : goal.loop-u-preserved
 loop-u-preserved c =

@@ -1,16 +1,22 @@
--- The step of the proof of `is_odd` that is not found by search.
-use Rattle.std.proofs.Common.{ℕ, ◌&&◌, sym, ap, ◌∙◌, rules}
+-- The steps of the proof of `is_odd` that are not found by search.
+use Rattle.std.proofs.Common.{◌≡◌, ℕ, ◌&&◌, refl, sym, ap, ◌∙◌, rules}
 use borrow.Author.Tests.{tests}
 use Rattle.road.specs.Counts.{par, cut}
 use Rattle.road.specs.Model.{model, marked}
 use Rattle.road.proofs.Models.{size_model}
 use Rattle.join.specs.Joins.{single, out}
-use Rattle.road.proofs.Ranges.{count_below, odd_count}
+use Rattle.road.proofs.Ranges.{fold_callable, fold_held}
 use Rattle.join.proofs.start.is_odd.Goals as goal
 
+pub fold-requires-clause-callable : goal.fold-requires-clause-callable
+unfolding par
+fold-requires-clause-callable c =
+    let ends = λ (k : ℕ). marked c.args.set.now k && cut (model c.args.town.now) (single c.args.v) k in
+    fold_callable c.args.town.now.count (λ k odd. odd ≡ par k ends) refl (λ k a b q h i e. search (rules, tests)) (λ k a h i. search rules)
+
 pub returns : goal.returns
-unfolding out
+unfolding out par
 returns c =
     let ends = λ (k : ℕ). marked c.args.set.now k && cut (model c.args.town.now) (single c.args.v) k in
-    odd_count _ ends (count_below ends c.count.ensures.ran c.filter-ends.ensures.source c.filter-ends.ensures.closure (λ x b q k. search (rules, tests)))
+    fold_held c.args.town.now.count (λ k odd. odd ≡ par k ends) refl (λ k a b q h i e. search (rules, tests)) c.fold.result c.fold.ensures.ran
     ∙ ap (λ n. par n ends) (sym (size_model c.args.town.now))

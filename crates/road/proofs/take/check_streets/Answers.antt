@@ -25,6 +25,6 @@ returns c =
     let l = c.as_chunks.ensures.front_len in
     let found : FirstBroken (length yss) (read n yss) c.position.result = search (rules, chains) in
     let broken = broken_ext _ (size t) (read n yss) (λ k. within n (street t k)) _ found (omega arith)
-    (λ k h. ap (within n) (street_chunk n xs yss c.as_chunks.ensures.front l k (omega arith))) in
+    (λ k h. ap (within n) (street_chunk n xs yss c.as_chunks.ensures.front k)) in
     says_found listed _ _ (λ k. (3, k)) (λ _. (k : ℕ) → k < length xs / 3 → Within n (street t k)) tt OutOfRange _ c.map_or.result broken (search rules) (λ k. refl)
     (λ h k i. within_true n (street t k) (h k (omega arith)))

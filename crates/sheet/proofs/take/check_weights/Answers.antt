@@ -2,17 +2,7 @@
 use Rattle.std.proofs.Common.{ℕ, ◌+◌, ◌*◌, leb, get_or, arith}
 use Rattle.std.proofs.lemmas.Bool.{lt-leb, leb-true}
 use Rattle.road.proofs.First.{all_kept, first_broken}
-use Rattle.sheet.proofs.Places.{place_low}
 use Rattle.sheet.proofs.take.check_weights.Goals as goal
-
-pub overflow_mul-i : goal.overflow_mul-i
-overflow_mul-i c = omega (arith, place_low c.args.crossings c.args.numbers.now c.loop-i.i c.loop-i-test.true)
-
-pub offset_bounds-numbers-i : goal.offset_bounds-numbers-i
-offset_bounds-numbers-i c = omega (arith, place_low c.args.crossings c.args.numbers.now c.loop-i.i c.loop-i-test.true)
-
-pub bounds-numbers-i : goal.bounds-numbers-i
-bounds-numbers-i c = omega (arith, place_low c.args.crossings c.args.numbers.now c.loop-i.i c.loop-i-test.true)
 
 pub returns-then-numbers-i-gt10000000 : goal.returns-then-numbers-i-gt10000000
 returns-then-numbers-i-gt10000000 c =

@@ -59,7 +59,7 @@ returns c =
     let u = c.args.found.now.crossing in
     let o = c.loop-circuit.invariant.1 in
     let r = c.in_default.ensures in
-    let lone : AllLone (town_in p) Z J (marked c.extra_for-base.result.now) (size (town_in p)) = λ k h. r k (omega (arith, size_model p.town.now)) in
+    let lone : AllLone (town_in p) Z J (marked c.extra_for-base.result.now) (size (town_in p)) = λ k h. r k (omega (arith, size_model p.streets.town.now)) in
     let few = lone_few (town_in p) (start_in p) (lengths_at v) (potential_at v) s.base Z (amount s.charge) (extra_in c.args.self.now.prices.now s.base) c.args.self.now.held.stage
     c.args.self.now.held.base u J o.joins (subst (λ B. AllLone (town_in p) Z J B (size (town_in p))) c.extra_for-base.ensures lone) in
     over_cheaper (town_in p) (start_in p) (reached_in p) (lengths_at v) (potential_at v) Z (amount s.charge) u J o few

@@ -1,10 +1,8 @@
 -- The steps of the proof of `look` that are not found by search.
-use Rattle.std.proofs.Common.{◌≡◌, ◌≤◌, true, false, replicate, pos, sym, ap, ◌∙◌, subst, arith, w64, to_z, of_z}
+use Rattle.std.proofs.Common.{◌≡◌, ◌≤◌, pos, sym, ap, ◌∙◌, subst, arith, w64, to_z, of_z}
 use Rattle.std.proofs.lemmas.Int.{ints}
-use Rattle.std.proofs.lemmas.List.{get_or-replicate}
 use Rattle.road.specs.Counts.{cut}
 use Rattle.road.specs.Model.{marked}
-use Rattle.road.proofs.Models.{size_model}
 use Rattle.join.specs.Joins.{◌⊞◌, single, cost}
 use Rattle.join.specs.Problems.{town_in, start_in, reached_in}
 use Rattle.join.specs.Prices.{extra_in}
@@ -12,72 +10,43 @@ use Rattle.join.specs.Classes.{way_in}
 use Rattle.join.specs.Amounts.{amount}
 use Rattle.join.specs.Potentials.{slack}
 use Rattle.join.specs.Turns.{lengths_at, potential_at, Charged}
-use Rattle.join.proofs.Looking.{look_better, look_room, look_charge, none_cut}
+use Rattle.join.proofs.Looking.{look_better, look_room, look_charge}
 use Rattle.join.proofs.contraction.Contraction.look.Goals as goal
 
-pub returns-in-Some : goal.returns-in-Some
-returns-in-Some c =
+pub returns-in-Some-clause-finds : goal.returns-in-Some-clause-finds
+returns-in-Some-clause-finds c =
     let b = c.least-b.result in
     let e = c.extra_for-drives.ensures in
     let w = way_in c.args.self.now.classes.now in
     let d = c.in-Some.ensures in
     let k = c.in-Some.k in
-    let better = look_better c.args.self.now.prices.now c.args.self.now.level.now c.args.self.now.classes.now b c.args.self.now.pass c.args.self.now.classed c.args.self.now.merged
+    look_better c.args.self.now.prices.now c.args.self.now.level.now c.args.self.now.classes.now b c.args.self.now.pass c.args.self.now.classed c.args.self.now.merged
     c.least-b.ensures.lowest c.least-b.ensures.below (marked c.class_of-marks.result) c.class_of-marks.ensures
     k c.inner_end-x.result c.outer_end-y.result (d.0, sym (ap (λ f. f k) e) ∙ d.1, d.2) c.inner_end-x.ensures.is c.outer_end-y.ensures.is
-    (marked c.lead_on.result) (c.lead_on.ensures ∙ ap (λ J. (J ⊞ (w b ⊞ w c.inner_end-x.result)) ⊞ single k) e) in
-    record { finds = better; named = tt }
+    (marked c.lead_on.result) (c.lead_on.ensures ∙ ap (λ J. (J ⊞ (w b ⊞ w c.inner_end-x.result)) ⊞ single k) e)
 
-pub tightest-tight-requires : goal.tightest-tight-requires
-tightest-tight-requires c =
-    let d = c.in-Some-exit.ensures in
-    record {
-      base = c.least-b.ensures.below;
-      room = look_room c.args.self.now.prices.now c.args.self.now.level.now c.args.self.now.classes.now c.least-b.result c.args.self.now.pass c.args.self.now.classed c.args.self.now.merged
-          c.least-b.ensures.lowest c.least-b.ensures.below (marked c.class_of-marks.result) c.class_of-marks.ensures;
-      below = d.0;
-      cuts = d.2;
-    }
+pub least_slack-requires-clause-room : goal.least_slack-requires-clause-room
+least_slack-requires-clause-room c =
+    look_room c.args.self.now.prices.now c.args.self.now.level.now c.args.self.now.classes.now c.least-b.result c.args.self.now.pass c.args.self.now.classed c.args.self.now.merged
+    c.least-b.ensures.lowest c.least-b.ensures.below (marked c.class_of-marks.result) c.class_of-marks.ensures
 
-pub slack-charge-requires : goal.slack-charge-requires
-slack-charge-requires c =
-    let d = c.tightest-tight.ensures in
-    record {
-      base = c.least-b.ensures.below;
-      room = look_room c.args.self.now.prices.now c.args.self.now.level.now c.args.self.now.classes.now c.least-b.result c.args.self.now.pass c.args.self.now.classed c.args.self.now.merged
-          c.least-b.ensures.lowest c.least-b.ensures.below (marked c.class_of-marks.result) c.class_of-marks.ensures;
-      below = omega (arith, d.below, size_model c.args.self.now.prices.now.problem.town.now);
-      cuts = d.cuts;
-    }
+pub look_inside-requires-clause-none : goal.look_inside-requires-clause-none
+look_inside-requires-clause-none c k h = sym (ap (λ Z. cut (town_in c.args.self.now.prices.now.problem) Z k) c.class_of-marks.ensures) ∙ c.in-None.ensures k h
 
-pub look_inside-requires : goal.look_inside-requires
-look_inside-requires c =
-    let p = c.args.self.now.prices.now.problem in
-    let v = c.args.self.now.level.now in
-    let b = c.least-b.result in
-    let same = ap (cost (town_in p) (lengths_at v)) c.extra_for-drives.ensures in
-    record {
-      lowest = (c.least-b.ensures.lowest, c.least-b.ensures.below);
-      high = omega (arith, ints, c.cost.ensures.is, c.if-cost-level.false, c.args.self.now.level.now.whole_potential b, same);
-      none = λ k h.
-          sym (ap (λ Z. cut (town_in p) Z k) c.class_of-marks.ensures)
-          ∙ none_cut (marked (replicate 300 true) k) (cut (town_in p) (marked c.class_of-marks.result) k)
-          (get_or-replicate 300 k true false (omega (arith, size_model p.town.now, p.town.now.few))) (c.in-None.ensures k h);
-    }
-
-pub returns-in-Some-exit : goal.returns-in-Some-exit
-returns-in-Some-exit c =
+pub returns-in-Some-least_slack-clause-finds : goal.returns-in-Some-least_slack-clause-finds
+returns-in-Some-least_slack-clause-finds c =
     let p = c.args.self.now.prices.now.problem in
     let q = c.args.self.now.prices.now in
     let v = c.args.self.now.level.now in
     let b = c.least-b.result in
     let Z = marked c.class_of-marks.result in
-    let k = c.tightest-tight.result in
+    let d = c.in-Some-least_slack.ensures in
+    let k = d.0 in
     let e = c.extra_for-drives.ensures in
     let same = ap (cost (town_in p) (lengths_at v)) e in
     let high : potential_at v b ≤ cost (town_in p) (lengths_at v) (extra_in q b) = omega (arith, ints, c.cost.ensures.is, c.if-cost-level.false, c.args.self.now.level.now.whole_potential b, same) in
-    let z : to_z w64 (of_z w64 c.slack-charge.result) ≡ pos (slack (town_in p) (lengths_at v) (potential_at v) b Z k) = omega (arith, ints, c.slack-charge.ensures.is) in
+    let z : to_z w64 (of_z w64 c.in-Some-least_slack.charge) ≡ pos (slack (town_in p) (lengths_at v) (potential_at v) b Z k) = omega (arith, ints, d.2) in
     let r = look_charge q v c.args.self.now.classes.now b c.args.self.now.pass c.args.self.now.classed c.args.self.now.merged c.least-b.ensures.lowest c.least-b.ensures.below Z c.class_of-marks.ensures
-    k high (λ j h u. sym (ap (λ f. f j) e) ∙ c.in_default.ensures j h u) c.tightest-tight.ensures c.slack-charge.ensures.some in
+    k high (λ j h u. sym (ap (λ f. f j) e) ∙ c.in_default.ensures j h u) d.1 d.3 in
     let charged = subst (λ n. Charged (town_in p) (start_in p) (reached_in p) (lengths_at v) (potential_at v) (extra_in q) Z n b) (sym (ap amount z)) r in
-    record { finds = (charged, c.least-b.ensures.below); named = c.class_of-marks.ensures }
+    (charged, c.least-b.ensures.below)

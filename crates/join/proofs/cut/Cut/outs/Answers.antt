@@ -14,5 +14,5 @@ unfolding cost
 returns c =
     let own = marked c.args.drives.now in
     let out = cut (ground c.args.self.now) (side_of c.args.self.now) in
-    count_below (λ k. own k && out k) c.count.ensures.ran c.filter.ensures.source c.filter.ensures.closure (λ x b q k. search (rules, tests))
-    ∙ count_both own out _ ∙ ap (λ n. sum n (λ k. when (own k) (bit (out k)))) (sym (size_model c.args.self.now.town.now))
+    count_below (λ k. out k && own k) c.count.ensures.ran c.filter.ensures.source c.filter.ensures.closure (λ x b q k. search (rules, tests))
+    ∙ count_both out own _ ∙ ap (λ n. sum n (λ k. when (own k) (bit (out k)))) (sym (size_model c.args.self.now.town.now))

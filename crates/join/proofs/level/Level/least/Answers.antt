@@ -26,7 +26,7 @@ pub fold-requires-clause-callable : goal.fold-requires-clause-callable
 fold-requires-clause-callable c =
     let In = reached_in c.args.problem.now in
     let g = potential_at c.args.self.now in
-    let t = c.args.problem.now.town.now in
+    let t = c.args.problem.now.streets.town.now in
     fold_callable 100 (LowestBelow In g) (omega (arith, t.home, t.most), c.args.problem.now.home, λ v l. absurd (omega arith))
     (λ k a b q h i e. (search rules, one_more In g k a b i (search (rules, tests)) (search (rules, tests)) (search (rules, tests, ints)) (λ m. search (rules, tests, ints)))) (λ k a h i. search rules)
 
@@ -34,7 +34,7 @@ pub returns : goal.returns
 returns c =
     let In = reached_in c.args.problem.now in
     let g = potential_at c.args.self.now in
-    let t = c.args.problem.now.town.now in
+    let t = c.args.problem.now.streets.town.now in
     let h = fold_held 100 (LowestBelow In g) (omega (arith, t.home, t.most), c.args.problem.now.home, λ v l. absurd (omega arith))
     (λ k a b q h i e. (search rules, one_more In g k a b i (search (rules, tests)) (search (rules, tests)) (search (rules, tests, ints)) (λ m. search (rules, tests, ints)))) c.fold.result c.fold.ensures.ran in
     record { below = h.0; lowest = record { met = h.1; least = λ u m. h.2 u (omega (arith, c.args.problem.now.places, marked_below c.args.problem.now.reached.now u m)) m } }

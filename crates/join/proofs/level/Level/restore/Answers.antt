@@ -6,23 +6,8 @@ use Rattle.road.specs.Model.{marked}
 use Rattle.join.specs.Amounts.{amount}
 use Rattle.join.specs.Problems.{town_in, reached_in}
 use Rattle.join.specs.Turns.{lengths_at, potential_at}
-use Rattle.join.proofs.Restoring.{outside_parts}
-use Rattle.join.proofs.Shifting.{moves_up, shifted_up}
+use Rattle.join.proofs.Shifting.{shifted_up}
 use Rattle.join.proofs.level.Level.restore.Goals as goal
-
-pub shift-requires : goal.shift-requires
-shift-requires c =
-    let p = c.args.problem.now in
-    let z = c.args.stage.now.charge in
-    let Z = marked c.args.stage.now.marks in
-    let f : SFits w64 z = search rules in
-    let e : to_z w64 (of_z w64 z) ≡ pos (amount z) = to_z-of_z w64 z f ∙ c.args.stage.now.whole in
-    record {
-      streets = λ k h u. moves_up 4000000000 (lengths_at c.args.self.now k) (amount z) _ e (c.requires.streets k h u);
-      crossings = λ u o.
-          let i = outside_parts (reached_in p u) (Z u) o in
-          moves_up 1200000000000 (potential_at c.args.self.now u) (amount z) _ e (c.requires.crossings u i.0 i.1);
-    }
 
 pub returns : goal.returns
 returns c =

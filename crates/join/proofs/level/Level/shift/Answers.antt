@@ -19,15 +19,15 @@ shift-requires c =
     let fits = λ (k : ℕ) (u : marked c.streets.result k ≡ true).
     let h = sym (ap (λ f. f k) c.streets.ensures) ∙ u in
     subst (Moves 1200000000000 (lengths_at v k)) (sym z)
-    (moves_most 4000000000 1200000000000 (lengths_at v k) c.args.by (omega arith) (c.requires.streets k (cut_below p.town.now Z 0 k h) h)) in
+    (moves_most 4000000000 1200000000000 (lengths_at v k) c.args.by (omega arith) (c.requires.streets k (cut_below p.streets.town.now Z 0 k h) h)) in
     (omega arith, (omega arith, (v.whole, fits)))
 
 pub shift-requires-2 : goal.shift-requires-2
 shift-requires-2 c =
     let v = c.args.self.now in
     let z = to_z-of_z w64 c.args.by c.ranges.by in
-    let fits = λ (u : ℕ) (o : marked c.outside.result u ≡ true).
-    subst (Moves 1200000000000 (potential_at v u)) (sym z) (c.requires.crossings u (sym (ap (λ f. f u) c.outside.ensures) ∙ o)) in
+    let fits = λ (u : ℕ) (o : marked c.unmarked.result u ≡ true).
+    subst (Moves 1200000000000 (potential_at v u)) (sym z) (c.requires.crossings u (sym (ap (λ f. f u) c.unmarked.ensures) ∙ o)) in
     (omega arith, (omega arith, (v.whole_potential, fits)))
 
 pub invariant_of-self : goal.invariant_of-self
@@ -42,13 +42,13 @@ invariant_of-self c =
     let l = lengths_at v in
     let g = potential_at v in
     let el = c.shift.ensures.is ∙ ap (λ b. shifted (marked c.streets.result) b l) z ∙ ap (λ S. shifted S by l) c.streets.ensures in
-    let eg = c.shift-2.ensures.is ∙ ap (λ b. shifted (marked c.outside.result) b g) z ∙ ap (λ S. shifted S by g) c.outside.ensures in
+    let eg = c.shift-2.ensures.is ∙ ap (λ b. shifted (marked c.unmarked.result) b g) z ∙ ap (λ S. shifted S by g) c.unmarked.ensures in
     record {
       streets = c.shift.ensures.long;
       places = c.shift-2.ensures.long;
       whole = c.shift.ensures.whole;
       most = λ k. subst (λ n. n ≤ 4000000000) (sym (ap (λ f. f k) el))
-          (shifted_most S by l 4000000000 v.most (λ k u. c.requires.streets k (cut_below p.town.now Z 0 k u) u) k);
+          (shifted_most S by l 4000000000 v.most (λ k u. c.requires.streets k (cut_below p.streets.town.now Z 0 k u) u) k);
       whole_potential = c.shift-2.ensures.whole;
       high = λ u. subst (λ n. n ≤ 1200000000000) (sym (ap (λ f. f u) eg)) (shifted_most O by g 1200000000000 v.high c.requires.crossings u);
     }
@@ -60,5 +60,5 @@ returns c =
     let g = potential_at c.args.self.now in
     record {
       streets = c.shift.ensures.is ∙ ap (λ b. shifted (marked c.streets.result) b l) z ∙ ap (λ S. shifted S c.args.by l) c.streets.ensures;
-      crossings = c.shift-2.ensures.is ∙ ap (λ b. shifted (marked c.outside.result) b g) z ∙ ap (λ S. shifted S c.args.by g) c.outside.ensures;
+      crossings = c.shift-2.ensures.is ∙ ap (λ b. shifted (marked c.unmarked.result) b g) z ∙ ap (λ S. shifted S c.args.by g) c.unmarked.ensures;
     }

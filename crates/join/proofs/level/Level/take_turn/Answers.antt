@@ -43,7 +43,7 @@ returns-in-Charge c =
       named = c.look-turn.ensures.named;
       progress = λ n x.
           subst (λ r. Progress (town_in p) (lengths_at v') (potential_at v') c' (n + charges_in r)) (sym c.in-Charge.is)
-          (progress_charge (town_in p) (ends_below p.town.now) (start_in p) (reached_in p) (lengths_at v) (potential_at v) (extra_in q) c.requires.pass.level (marked s.marks)
+          (progress_charge (town_in p) (ends_below p.streets.town.now) (start_in p) (reached_in p) (lengths_at v) (potential_at v) (extra_in q) c.requires.pass.level (marked s.marks)
           (amount s.charge) s.base f.0 c' f.1 m (lengths_at v') (potential_at v') d.streets d.crossings n
           (c.merge.ensures.progress (potential_at v) n x));
       leaves = subst (Leaves (town_in p) (reached_in p) (lengths_at v) (potential_at v) (lengths_at v') (potential_at v')) (sym c.in-Charge.is) (d.streets, d.crossings);

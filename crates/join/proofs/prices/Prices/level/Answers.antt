@@ -1,22 +1,7 @@
--- The steps of the proof of `level` that are not found by search.
+-- The step of the proof of `level` that is not found by search.
 use Rattle.std.proofs.Common.{◌≡◌, length, refl, rules}
-use Rattle.join.proofs.Beginning.{begin_pass, begin_after, all_whole, all_high, all_are}
+use Rattle.join.proofs.Beginning.{begin_pass, begin_after, all_are}
 use Rattle.join.proofs.prices.Prices.level.Goals as goal
-
-pub invariant_of-result : goal.invariant_of-result
-invariant_of-result c =
-    let q = c.args.self.now in
-    let p = q.problem in
-    let zs = c.all.result in
-    let long : length zs ≡ 100 = search rules in
-    record {
-      streets = p.streets;
-      places = long;
-      whole = p.whole;
-      most = p.most;
-      whole_potential = all_whole q zs long c.all.ensures;
-      high = all_high q zs long c.all.ensures;
-    }
 
 pub returns : goal.returns
 returns c =

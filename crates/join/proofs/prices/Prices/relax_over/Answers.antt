@@ -1,5 +1,5 @@
 -- The steps of the proof of `relax_over` that are not found by search.
-use Rattle.std.proofs.Common.{◌≡◌, ◌<◌, ◌≤◌, true, false, pos, sym, refl, ap, ◌∙◌, subst, arith}
+use Rattle.std.proofs.Common.{◌≡◌, ◌<◌, ◌≤◌, false, pos, sym, refl, ap, ◌∙◌, subst, arith}
 use Rattle.std.proofs.lemmas.Int.{ints}
 use Rattle.std.proofs.lemmas.Bool.{both_ways}
 use Rattle.road.specs.Counts.{size}
@@ -11,35 +11,26 @@ use Rattle.join.specs.Prices.{extra_in, price_in}
 use Rattle.join.proofs.Relaxing.{begin_is, into_is, end_reached, over_join, over_near}
 use Rattle.join.proofs.prices.Prices.relax_over.Goals as goal
 
-pub cost_flipped-cost-requires : goal.cost_flipped-cost-requires
-cost_flipped-cost-requires c =
+pub cost_flipped-cost-requires-clause-before : goal.cost_flipped-cost-requires-clause-before
+cost_flipped-cost-requires-clause-before c =
     let q = c.args.self.now in
     let p = q.problem in
     let x = c.begin_of-x.result in
-    let h : c.args.k < size (town_in p) = omega (arith, size_model p.town.now, c.requires) in
+    let h : c.args.k < size (town_in p) = omega (arith, size_model p.streets.town.now, c.requires) in
     let e : price_in q x ≡ cost (town_in p) (costs_in p) (marked c.extra_for.result.now) =
     q.costs x (ap (λ u. marked p.reached.now u) (c.begin_of-x.ensures.is ∙ begin_is (town_in p) c.args.k c.args.back) ∙ end_reached p c.args.k c.args.back h) ∙ ap (cost (town_in p) (costs_in p)) (sym c.extra_for.ensures) in
-    record { below = c.requires; before = omega (arith, ints, c.price_for.ensures, e) }
+    omega (arith, ints, c.price_for.ensures, e)
 
-pub replace-requires : goal.replace-requires
-replace-requires c =
+pub replace-requires-clause-joins : goal.replace-requires-clause-joins
+replace-requires-clause-joins c =
     let q = c.args.self.now in
     let p = q.problem in
     let x = c.begin_of-x.result in
     let y = c.end_of-y.result in
     let k = c.args.k in
     let eJ = c.flip.ensures ∙ ap (λ J. J ⊞ single k) c.extra_for-then-cost-price_for.ensures in
-    let f = c.cost_flipped-cost.ensures ∙ ap (λ J. pos (cost (town_in p) (costs_in p) (J ⊞ single k))) c.extra_for.ensures
-    ∙ ap (λ J. pos (cost (town_in p) (costs_in p) J)) (sym eJ) in
-    record {
-      below = omega (arith, c.end_of-y.ensures.below, p.town.now.most);
-      joins = subst (Joins (town_in p) (start_in p) y) (sym eJ) (over_join q k c.args.back c.requires x y (c.begin_of-x.ensures.is ∙ begin_is (town_in p) c.args.k c.args.back) (c.end_of-y.ensures.is ∙ into_is (town_in p) c.args.k c.args.back));
-      costs = omega (arith, ints, f);
-      cheaper = omega (arith, ints, f, c.price_for-2.ensures, c.if-cost-price_for.true);
-    }
-
-pub returns-then-cost-price_for : goal.returns-then-cost-price_for
-returns-then-cost-price_for c = record { problem = c.replace.ensures.problem; less = λ _. c.replace.ensures.lower; same = λ f. absurd (both_ways true f refl) }
+    subst (Joins (town_in p) (start_in p) y) (sym eJ)
+    (over_join q k c.args.back c.requires x y (c.begin_of-x.ensures.is ∙ begin_is (town_in p) c.args.k c.args.back) (c.end_of-y.ensures.is ∙ into_is (town_in p) c.args.k c.args.back))
 
 pub returns : goal.returns
 returns c =

@@ -3,4 +3,4 @@ use Rattle.join.specs.Prices.{Lowered, AllNear}
 use Rattle.join.proofs.prices.Prices.sweep.Given as goal
 
 abbrev pub invariant-loop-k : goal.invariant-loop-k
-invariant-loop-k l = Lowered l.initial.self l.self l.any (AllNear l.self l.k)
+invariant-loop-k l = Lowered l.initial.self l.self l.lower (AllNear l.self l.k)

@@ -12,9 +12,9 @@ loop-i-preserved c =
     let next = weights_more (parts_of p) c.loop-i.i (omega arith) in
     (omega (arith, c.loop-i.invariant.0, c.weight-sum.ensures.is), omega (arith, c.loop-i.invariant.1, c.weight-sum.ensures.light))
 
-pub returns : goal.returns
-returns c =
+pub returns-clause-is : goal.returns-clause-is
+returns-clause-is c =
     let p = c.args.self.now in
     let e = length_parts p.count p.town.now.crossings p.numbers.now in
     let none = weights_all (parts_of p) c.loop-i.i (omega arith) in
-    record { is = omega (arith, c.loop-i.invariant.0); most = omega (arith, c.loop-i.invariant.1, p.few) }
+    omega (arith, c.loop-i.invariant.0)

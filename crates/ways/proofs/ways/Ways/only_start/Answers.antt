@@ -1,13 +1,8 @@
 -- The steps of the proof of `only_start` that are not found by search.
-use Rattle.std.proofs.Common.{length, refl, ap, arith}
-use Rattle.std.proofs.lemmas.List.{length-replicate}
+use Rattle.std.proofs.Common.{refl}
 use Rattle.road.specs.Model.{model}
-use Rattle.ways.proofs.Relaxed.{no_way, come_start}
+use Rattle.ways.proofs.Relaxed.{come_start}
 use Rattle.ways.proofs.ways.Ways.only_start.Goals as goal
-
-pub index_mut-requires : goal.index_mut-requires
-index_mut-requires c =
-    omega (arith, c.requires, c.in_ok-ways.ways.ok.0, ap length c.in_ok-ways.ensures, length-replicate c.args.town.now.crossings no_way)
 
 pub returns : goal.returns
 returns c =
