@@ -1,5 +1,5 @@
 -- A signed number added at the places of a set. Assumes nothing.
-use Rattle.std.proofs.Common.{◌≡◌, ℕ, ◌+◌, ◌-◌, ◌≤◌, Bool, true, false, ℤ, pos, ◌+ℤ◌, neg_ℤ, refl, ap, ◌∙◌, arith}
+use Rattle.std.proofs.Common.{◌≡◌, ℕ, ◌+◌, ◌-◌, ◌≤◌, Bool, true, false, ℤ, pos, ◌+ℤ◌, neg_ℤ, sym, refl, ap, ◌∙◌, subst, arith}
 use mathlib.Core.Path.{fun_ext}
 use Rattle.std.proofs.lemmas.Int.{ints}
 use Rattle.road.specs.Roads.{pick}
@@ -10,12 +10,18 @@ use Rattle.join.specs.Amounts.{amount, moved, Moves, shifted}
 moved_is : (n r : ℕ) (by : ℤ) → pos n +ℤ by ≡ pos r → moved n by ≡ r
 moved_is n r by e = ap amount e
 
+moves : (m n r : ℕ) (by : ℤ) → pos n +ℤ by ≡ pos r → r ≤ m → Moves m n by
+moves m n r by e le = let q = moved_is n r by e in record { whole = e ∙ ap pos (sym q); most = subst (λ x. x ≤ m) (sym q) le }
+
 pub moves_most : (m r n : ℕ) (by : ℤ) → m ≤ r → Moves m n by → Moves r n by
 moves_most m r n by le s = record { whole = s.whole; most = omega (arith, s.most) }
 
 -- less, and more
 down : (n e : ℕ) (by : ℤ) → by ≡ neg_ℤ (pos e) → e ≤ n → pos n +ℤ by ≡ pos (n - e)
 down n e by q h = omega (arith, ints)
+
+pub moves_down : (m n e : ℕ) (by : ℤ) → by ≡ neg_ℤ (pos e) → e ≤ n → n ≤ m → Moves m n by
+moves_down m n e by q h le = moves m n (n - e) by (down n e by q h) (omega arith)
 
 up : (n e : ℕ) (by : ℤ) → by ≡ pos e → pos n +ℤ by ≡ pos (n + e)
 up n e by q = omega (arith, ints)

@@ -65,8 +65,8 @@ impl ChargedCut<'_, '_, '_> {
     }
 
     // Carries a set that is cheaper after the charge down over it: a set that was cheaper before it.
-    pub(crate) fn carry(&self, found: &Found, component: &mut Component) -> Found
-        requires { Over (town_in self.now.prices.now.problem) (start_in self.now.prices.now.problem) (reached_in self.now.prices.now.problem) (lengths_at self.now.level.now) (potential_at self.now.level.now) (marked self.now.stage.now.marks) (amount self.now.stage.now.charge) found.now.crossing (marked found.now.drives) }
+    pub(crate) fn carry(&self, mut found: Found, component: &mut Component) -> Found
+        requires { Over (town_in self.now.prices.now.problem) (start_in self.now.prices.now.problem) (reached_in self.now.prices.now.problem) (lengths_at self.now.level.now) (potential_at self.now.level.now) (marked self.now.stage.now.marks) (amount self.now.stage.now.charge) found.crossing (marked found.drives) }
         ensures { Cheaper (town_in self.now.prices.now.problem) (start_in self.now.prices.now.problem) (reached_in self.now.prices.now.problem) (lengths_at self.now.level.now) (potential_at self.now.level.now) result.crossing (marked result.drives) }
     {
         let prices = self.prices;
@@ -76,29 +76,20 @@ impl ChargedCut<'_, '_, '_> {
             marks: &stage.marks,
         };
         if cut.outs(&found.drives) <= 1 {
-            return Found {
-                crossing: found.crossing,
-                drives: found.drives,
-            };
+            return found;
         }
         let base = prices.extra_for(stage.base);
-        let mut drives = found.drives;
-        while let Some(circuit) = cut.circuit(&drives, base, component) {
-            match self.exchange(&drives, &circuit) {
+        while let Some(circuit) = cut.circuit(&found.drives, base, component) {
+            match self.exchange(&found.drives, &circuit) {
                 Outcome::Lower(lower) => {
                     return Found {
                         crossing: circuit.out.outer,
                         drives: lower,
                     };
                 }
-                Outcome::Fewer(fewer) => {
-                    drives = fewer;
-                }
+                Outcome::Fewer(fewer) => found.drives = fewer,
             }
         }
-        Found {
-            crossing: found.crossing,
-            drives,
-        }
+        found
     }
 }

@@ -53,7 +53,7 @@ impl Cut<'_, '_> {
             && marks[self.outer_end(k)])
     }
 
-    // A circuit that begins with street k of the set, which is cut.
+    // A circuit that begins with street k of the set, which is cut. The sets are others for each circuit, and the component is a room.
     fn close(
         &self,
         drives: &[bool; 300],

@@ -1,9 +1,9 @@
 // The streets that lead out of a set of crossings.
 ghost use Rattle.std.specs.Prelude.{◌≡◌, ℕ, ◌<◌, true, false, ◌&&◌, MatchOption};
-ghost use Rattle.road.specs.Counts.{◌⊕◌, size, one, cut as cuts};
+ghost use Rattle.road.specs.Counts.{size, cut as cuts};
 ghost use Rattle.road.specs.Model.{marked};
 ghost use Rattle.join.specs.Joins.{outs as ways};
-ghost use Rattle.join.specs.Weights.{ground, side_of, end_of, inner, outer};
+ghost use Rattle.join.specs.Weights.{ground, side_of, inner, outer};
 
 use crate::cut::Cut;
 
@@ -34,25 +34,12 @@ impl Cut<'_, '_> {
             .count()
     }
 
-    // The end of a cut street that is in the set, or the one that is not.
-    fn end_where(&self, k: usize, inside: bool) -> usize
-        ensures is { result ≡ end_of (ground self.now) k (inside ⊕ side_of self.now (one (ground self.now) k)) }
-        ensures below { result < 100 }
-    {
-        let street = self.town.street(k);
-        if self.marks[street.one] == inside {
-            street.one
-        } else {
-            street.two
-        }
-    }
-
     // The end of a cut street that is in the set.
     pub(crate) fn inner_end(&self, k: usize) -> usize
         ensures is { result ≡ inner (ground self.now) (side_of self.now) k }
         ensures below { result < 100 }
     {
-        self.end_where(k, true)
+        self.town.begin_of(self.town.leg_out(k, self.marks))
     }
 
     // The end of a cut street that is not in the set.
@@ -60,7 +47,7 @@ impl Cut<'_, '_> {
         ensures is { result ≡ outer (ground self.now) (side_of self.now) k }
         ensures below { result < 100 }
     {
-        self.end_where(k, false)
+        self.town.end_of(self.town.leg_out(k, self.marks))
     }
 
     // A street of a set that is cut.

@@ -14,11 +14,11 @@ use crate::packing::CutPacking;
 use crate::turn::Found;
 
 impl CutPacking<'_, '_, '_> {
-    // Puts the charge of stage i back, and carries a cheaper set down over it.
-    fn undo(&self, level: &mut Level, i: usize, found: &Found, component: &mut Component) -> Found
+    // Puts the charge of stage i back, and carries a cheaper set down over it. What is the same for all stages is in the packing.
+    fn undo(&self, level: &mut Level, i: usize, found: Found, component: &mut Component) -> Found
         requires below { i < length self.now.stages.now }
         requires after { After self.now.prices.now self.now.stages.now (i + 1) level.old }
-        requires cheaper { Cheaper (town_in self.now.prices.now.problem) (start_in self.now.prices.now.problem) (reached_in self.now.prices.now.problem) (lengths_at level.old) (potential_at level.old) found.now.crossing (marked found.now.drives) }
+        requires cheaper { Cheaper (town_in self.now.prices.now.problem) (start_in self.now.prices.now.problem) (reached_in self.now.prices.now.problem) (lengths_at level.old) (potential_at level.old) found.crossing (marked found.drives) }
         ensures after { After self.now.prices.now self.now.stages.now i level.new }
         ensures cheaper { Cheaper (town_in self.now.prices.now.problem) (start_in self.now.prices.now.problem) (reached_in self.now.prices.now.problem) (lengths_at level.new) (potential_at level.new) result.crossing (marked result.drives) }
     {
@@ -38,7 +38,7 @@ impl CutPacking<'_, '_, '_> {
     pub(crate) fn descend(
         &self,
         level: &mut Level,
-        found: Found,
+        mut found: Found,
         component: &mut Component,
     ) -> Found
         requires after { After self.now.prices.now self.now.stages.now (length self.now.stages.now) level.old }
@@ -46,10 +46,9 @@ impl CutPacking<'_, '_, '_> {
         ensures { Cheaper (town_in self.now.prices.now.problem) (start_in self.now.prices.now.problem) (reached_in self.now.prices.now.problem) (costs_in self.now.prices.now.problem) (price_in self.now.prices.now) result.crossing (marked result.drives) }
     {
         // By number: what holds of the level is said of the stages before number i.
-        let mut best = found;
         for i in (0..self.stages.len()).rev() {
-            best = self.undo(level, i, &best, component);
+            found = self.undo(level, i, found, component);
         }
-        best
+        found
     }
 }

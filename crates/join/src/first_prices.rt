@@ -1,7 +1,6 @@
 // The first sets of extra drives and their prices: the depot's set, and on along a shortest way to each crossing.
 ghost use Rattle.std.specs.Prelude.{◌≡◌, ◌<◌, true, pos, IfOk};
-ghost use Rattle.road.specs.Model.{model, marked};
-ghost use Rattle.ways.specs.Shown.{AllShown};
+ghost use Rattle.road.specs.Model.{marked};
 ghost use Rattle.join.specs.Joins.{Joins, cost};
 ghost use Rattle.join.specs.Problems.{town_in, costs_in, start_in, reached_in};
 ghost use Rattle.join.specs.First.{Leads, Rooted, Begun};
@@ -10,32 +9,16 @@ use crate::drives::PricedDrives;
 use crate::prices::Prices;
 use crate::problem::Problem;
 use crate::start::{flip_along, way_to};
-use road::Town;
 use std::alloc::{AllocError, Global};
 use ways::Ways;
 
-// A set, and on along the way to crossing u, if there is one.
-fn along_way(town: &Town, home: &[bool; 300], ways: &Ways, u: usize) -> [bool; 300]
-    requires shown { AllShown (model town.now) town.now.depot ways.now }
-    requires below { u < town.now.crossings }
-    ensures { Leads (model town.now) town.now.depot (marked home.now) ways.now u (marked result) }
-{
-    match way_to(ways, u) {
-        Some(way) => flip_along(home, way.legs.as_slice()),
-        None => *home,
-    }
-}
-
-// The set for crossing u.
-fn set_for(problem: &Problem, home: &[bool; 300], ways: &Ways, u: usize) -> [bool; 300]
-    requires { Rooted problem.now (marked home.now) ways.now }
-    ensures { reached_in problem.now u ≡ true → Joins (town_in problem.now) (start_in problem.now) u (marked result) }
-{
-    if u < problem.streets.town.crossings {
-        along_way(problem.streets.town, home, ways, u)
-    } else {
-        *home
-    }
+// A problem with a set that leads to the depot, and ways from there to each crossing that can be come to.
+#[derive(Clone, Copy)]
+pub(crate) struct Start<'a, 't, 'c> {
+    pub problem: &'a Problem<'t, 'c>,
+    pub home: &'a [bool; 300],
+    pub ways: &'a Ways,
+    ghost rooted: { ∥ Rooted problem.now (marked home.now) ways.now ∥₁ },
 }
 
 impl Problem<'_, '_> {
@@ -49,37 +32,46 @@ impl Problem<'_, '_> {
     }
 }
 
-// Sets for the crossings, from a set that leads to the depot.
-fn first_sets(
-    problem: &Problem,
-    home: &[bool; 300],
-    ways: &Ways,
-    heap: Global,
-) -> Result<Vec<PricedDrives>, AllocError>
-    requires { Rooted problem.now (marked home.now) ways.now }
-    ensures { IfOk result (λ extra. Begun problem.now extra.items 100) }
-{
-    let mut extra = Vec::new(heap);
-    for u in 0..100 {
-        extra.push(problem.priced(set_for(problem, home, ways, u)))?;
-    }
-    Ok(extra)
-}
-
-impl<'t, 'c> Prices<'t, 'c> {
-    // A set for each crossing that can be come to, from a set that leads to the depot.
-    pub(crate) fn first(
-        problem: &Problem<'t, 'c>,
-        home: &[bool; 300],
-        ways: &Ways,
-        heap: Global,
-    ) -> Result<Prices<'t, 'c>, AllocError>
-        requires { Rooted problem.now (marked home.now) ways.now }
-        ensures { IfOk result (λ q. q.problem ≡ problem.now) }
+impl<'t, 'c> Start<'_, 't, 'c> {
+    // The depot's set, and on along the way to crossing u, if there is one.
+    fn along_way(&self, u: usize) -> [bool; 300]
+        requires { u < self.now.problem.now.streets.town.now.crossings }
+        ensures { Leads (town_in self.now.problem.now) self.now.problem.now.streets.town.now.depot (marked self.now.home.now) self.now.ways.now u (marked result) }
     {
-        let extra = first_sets(problem, home, ways, heap)?;
+        match way_to(self.ways, u) {
+            Some(way) => flip_along(self.home, way.legs.as_slice()),
+            None => *self.home,
+        }
+    }
+
+    // The set for crossing u.
+    fn set_for(&self, u: usize) -> [bool; 300]
+        ensures { reached_in self.now.problem.now u ≡ true → Joins (town_in self.now.problem.now) (start_in self.now.problem.now) u (marked result) }
+    {
+        let problem = self.problem;
+        if u < problem.streets.town.crossings {
+            self.along_way(u)
+        } else {
+            *self.home
+        }
+    }
+
+    // Sets for the crossings.
+    fn first_sets(&self, heap: Global) -> Result<Vec<PricedDrives>, AllocError>
+        ensures { IfOk result (λ extra. Begun self.now.problem.now extra.items 100) }
+    {
+        (0..100)
+            .map(|u| self.problem.priced(self.set_for(u)))
+            .collect(heap)
+    }
+
+    // A set for each crossing that can be come to, with its price.
+    pub(crate) fn first_prices(&self, heap: Global) -> Result<Prices<'t, 'c>, AllocError>
+        ensures { IfOk result (λ q. q.problem ≡ self.now.problem.now) }
+    {
+        let extra = self.first_sets(heap)?;
         Ok(Prices {
-            problem: *problem,
+            problem: *self.problem,
             extra,
         })
     }

@@ -11,6 +11,7 @@ use crate::sets::{flip, only};
 use road::Town;
 
 // It grows as what can be come to from the depot does in `road`, but over a set of streets and with a way to each crossing; there marks are enough, and nothing is allocated.
+// `Grown` is no invariant of the type: the room is kept from one set of streets to the next.
 impl Component {
     // The way to crossing v.
     pub(crate) fn path_to(&self, v: usize) -> &[bool; 300]

@@ -52,7 +52,6 @@ impl Contraction<'_, '_, '_> {
     {
         let prices = self.prices;
         let level = self.level;
-        let classes = self.classes;
         let b = level.least(&prices.problem);
         let drives = prices.extra_for(b);
         let streets = Weighted {
@@ -65,17 +64,16 @@ impl Contraction<'_, '_, '_> {
                 drives: *drives,
             });
         }
-        let marks = classes.class_of(b);
+        let marks = self.classes.class_of(b);
         let cut = Cut {
             town: prices.problem.streets.town,
             marks: &marks,
         };
         if let Some(k) = cut.exit(drives) {
             let x = cut.inner_end(k);
-            let y = cut.outer_end(k);
             return Turn::Better(Found {
-                crossing: y,
-                drives: classes.lead_on(drives, b, x, k),
+                crossing: cut.outer_end(k),
+                drives: self.classes.lead_on(drives, b, x, k),
             });
         }
         match level.least_slack(&cut, b) {

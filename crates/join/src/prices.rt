@@ -7,7 +7,7 @@ ghost use Rattle.join.specs.Drives.{drives_of, price_of};
 use crate::drives::PricedDrives;
 use crate::problem::Problem;
 
-// The set for a crossing that can be come to leads there.
+// The set for a crossing that can be come to leads there. What changes a set says that the problem stays.
 #[derive(Drop)]
 pub(crate) struct Prices<'t, 'c> {
     pub problem: Problem<'t, 'c>,

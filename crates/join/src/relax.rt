@@ -76,7 +76,7 @@ impl Prices<'_, '_> {
         lower
     }
 
-    // Comes over streets until nothing is cheaper.
+    // Comes over streets until nothing is cheaper. `AllNear` is no invariant of the type: the next cheaper set ends it.
     pub(crate) fn relax(&mut self)
         ensures problem { self.new.problem ≡ self.old.problem }
         ensures near { AllNear self.new self.new.problem.streets.town.now.count }

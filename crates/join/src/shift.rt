@@ -34,6 +34,7 @@ fn shift<const N: usize>(amounts: &mut [i64; N], places: &[bool; N], by: i64)
     ensures whole { Whole amounts.new }
     ensures is { number amounts.new ≡ shifted (marked places.now) by (number amounts.old) }
 {
+    // By number, since of amounts that `iter_mut` zips with places nothing is known after the loop.
     for (k, amount) in amounts.iter_mut().enumerate() {
         *amount = shifted_if(places[k], *amount, by);
     }
@@ -51,10 +52,11 @@ impl Cut<'_, '_> {
     fn streets(&self) -> [bool; 300]
         ensures { marked result ≡ cuts (ground self.now) (side_of self.now) }
     {
-        // By index: `from_fn` would go over all 300 places, and takes twice as long.
         let mut streets = [false; 300];
-        for k in 0..self.town.count {
-            streets[k] = self.has(k);
+        // By number, as every street is asked for; the rest of the places is left, since `from_fn` over all of them takes longer.
+        let own = &mut streets[..self.town.count];
+        for (k, cut) in own.iter_mut().enumerate() {
+            *cut = self.has(k);
         }
         streets
     }

@@ -6,6 +6,7 @@ ghost use Rattle.join.specs.Problems.{town_in, reached_in};
 ghost use Rattle.join.specs.Passes.{ShowsLeast};
 
 use crate::component::Component;
+use crate::first_prices::Start;
 use crate::prices::Prices;
 use crate::problem::Problem;
 use crate::sets::no_ways;
@@ -32,7 +33,12 @@ impl<'t, 'c> Problem<'t, 'c> {
         ensures shown { IfOk result (λ s. ShowsLeast s.prices s.stages.items) }
     {
         let home = pair_off(self.streets.town, self.required, heap)?;
-        let mut prices = Prices::first(self, &home, ways, heap)?;
+        let start = Start {
+            problem: self,
+            home: &home,
+            ways,
+        };
+        let mut prices = start.first_prices(heap)?;
         let mut component = Component {
             from: 0,
             marks: [false; 100],

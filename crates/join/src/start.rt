@@ -12,21 +12,82 @@ use road::{Leg, Town};
 use std::alloc::{AllocError, Global};
 use ways::{NoWays, Way, Ways};
 
-// Whether street k is in a set and has just one end at a crossing.
-fn has_one_end(town: &Town, set: &[bool; 300], k: usize, v: usize) -> bool
-    requires { k < 300 }
-    ensures { result ≡ (marked set.now k && cut (model town.now) (single v) k) }
-{
-    let street = town.street(k);
-    let one_end = (street.one == v) != (street.two == v);
-    set[k] && one_end
+// A town with the streets of a set alone.
+#[derive(Clone, Copy)]
+struct Subgraph<'a> {
+    town: &'a Town,
+    set: &'a [bool; 300],
 }
 
-// Whether a set has an odd number of ends of streets at a crossing.
-fn is_odd(town: &Town, set: &[bool; 300], v: usize) -> bool
-    ensures { result ≡ odd_at (model town.now) (marked set.now) v }
-{
-    (0..town.count).fold(false, |odd, k| odd != has_one_end(town, set, k, v))
+impl Subgraph<'_> {
+    // Whether street k is in the set and has just one end at a crossing.
+    fn has_one_end(&self, k: usize, v: usize) -> bool
+        requires { k < 300 }
+        ensures { result ≡ (marked self.now.set.now k && cut (model self.now.town.now) (single v) k) }
+    {
+        let street = self.town.street(k);
+        let one_end = (street.one == v) != (street.two == v);
+        self.set[k] && one_end
+    }
+
+    // Whether the set has an odd number of ends of streets at a crossing.
+    fn is_odd(&self, v: usize) -> bool
+        ensures { result ≡ odd_at (model self.now.town.now) (marked self.now.set.now) v }
+    {
+        (0..self.town.count).fold(false, |odd, k| odd != self.has_one_end(k, v))
+    }
+
+    // The first odd crossing.
+    fn first_odd(&self) -> Option<usize>
+        ensures { MatchOption result ((v : ℕ) → v < self.now.town.now.crossings → odd_at (model self.now.town.now) (marked self.now.set.now) v ≡ false)
+            (λ v. (v < self.now.town.now.crossings) × (odd_at (model self.now.town.now) (marked self.now.set.now) v ≡ true)) }
+    {
+        (0..self.town.crossings).find(|&v| self.is_odd(v))
+    }
+
+    // The length of the way to crossing w, if w is odd, is not v, and there is one.
+    fn distance_to_odd(&self, ways: &Ways, v: usize, w: usize) -> Option<u64>
+        requires { w < places ways.now }
+        ensures { MatchOption result ((w ≢ v) → odd_at (model self.now.town.now) (marked self.now.set.now) w ≡ true → to ways.now w ≡ None)
+            (λ _. (w ≢ v) × (odd_at (model self.now.town.now) (marked self.now.set.now) w ≡ true) × ((way : Way) × (to ways.now w ≡ Some way))) }
+    {
+        if w == v || !self.is_odd(w) {
+            return None;
+        }
+        ways.distance(w).ok().flatten()
+    }
+
+    // The nearest odd crossing other than v to which there is a way.
+    fn nearest(&self, ways: &Ways, v: usize) -> Option<usize>
+        requires { places ways.now ≡ self.now.town.now.crossings }
+        ensures { Other (model self.now.town.now) (marked self.now.set.now) ways.now v self.now.town.now.crossings result }
+    {
+        // From the last on: of crossings that are equally near the last is taken.
+        (0..self.town.crossings)
+            .rev()
+            .filter_map(|w| {
+                self.distance_to_odd(ways, v, w)
+                    .map(|distance| (w, distance))
+            })
+            .min_by_key(|&(_, distance)| distance)
+            .map(|(w, _)| w)
+    }
+
+    // Joins the odd crossing v with the nearest other, along a shortest way.
+    fn pair(&self, v: usize, heap: Global) -> Result<[bool; 300], AllocError>
+        requires below { v < self.now.town.now.crossings }
+        requires odd { odd_at (model self.now.town.now) (marked self.now.set.now) v ≡ true }
+        ensures { IfOk result (λ paired. odds (model self.now.town.now) (marked paired) < odds (model self.now.town.now) (marked self.now.set.now)) }
+    {
+        let ways = ways_from(self.town, v, heap)?;
+        let Some(w) = self.nearest(&ways, v) else {
+            unreachable()
+        };
+        let Some(way) = way_to(&ways, w) else {
+            unreachable()
+        };
+        Ok(flip_along(self.set, way.legs.as_slice()))
+    }
 }
 
 // The first odd crossing.
@@ -34,7 +95,7 @@ pub fn first_odd(town: &Town, set: &[bool; 300]) -> Option<usize>
     ensures { MatchOption result ((v : ℕ) → v < town.now.crossings → odd_at (model town.now) (marked set.now) v ≡ false)
         (λ v. (v < town.now.crossings) × (odd_at (model town.now) (marked set.now) v ≡ true)) }
 {
-    (0..town.crossings).find(|&v| is_odd(town, set, v))
+    Subgraph { town, set }.first_odd()
 }
 
 // A set with the street of each leg put in, or taken out.
@@ -47,32 +108,6 @@ pub(crate) fn flip_along(set: &[bool; 300], legs: &[Leg]) -> [bool; 300]
         out = flip(&out, leg.by);
     }
     out
-}
-
-// The length of the way to crossing w, if w is odd, is not v, and there is one.
-fn distance_to_odd(town: &Town, set: &[bool; 300], ways: &Ways, v: usize, w: usize) -> Option<u64>
-    requires { w < places ways.now }
-    ensures { MatchOption result ((w ≢ v) → odd_at (model town.now) (marked set.now) w ≡ true → to ways.now w ≡ None)
-        (λ _. (w ≢ v) × (odd_at (model town.now) (marked set.now) w ≡ true) × ((way : Way) × (to ways.now w ≡ Some way))) }
-{
-    if w == v || !is_odd(town, set, w) {
-        return None;
-    }
-    ways.distance(w).ok().flatten()
-}
-
-// The nearest odd crossing other than v to which there is a way.
-fn nearest(town: &Town, set: &[bool; 300], ways: &Ways, v: usize) -> Option<usize>
-    requires { places ways.now ≡ town.now.crossings }
-    ensures { Other (model town.now) (marked set.now) ways.now v town.now.crossings result }
-{
-    // From the last on: of crossings that are equally near the last is taken.
-    let others = (0..town.crossings).rev().filter_map(|w| {
-        let distance = distance_to_odd(town, set, ways, v, w)?;
-        Some((w, distance))
-    });
-    let (w, _) = others.min_by_key(|&(_, distance)| distance)?;
-    Some(w)
 }
 
 // The way to a crossing, if there is one.
@@ -94,22 +129,6 @@ pub(crate) fn ways_from(town: &Town, v: usize, heap: Global) -> Result<Ways, All
     })
 }
 
-// Joins the odd crossing v with the nearest other, along a shortest way.
-fn pair(town: &Town, set: &[bool; 300], v: usize, heap: Global) -> Result<[bool; 300], AllocError>
-    requires below { v < town.now.crossings }
-    requires odd { odd_at (model town.now) (marked set.now) v ≡ true }
-    ensures { IfOk result (λ paired. odds (model town.now) (marked paired) < odds (model town.now) (marked set.now)) }
-{
-    let ways = ways_from(town, v, heap)?;
-    let Some(w) = nearest(town, set, &ways, v) else {
-        unreachable()
-    };
-    let Some(way) = way_to(&ways, w) else {
-        unreachable()
-    };
-    Ok(flip_along(set, way.legs.as_slice()))
-}
-
 // Extra drives with which the required streets make every crossing even.
 pub(crate) fn pair_off(
     town: &Town,
@@ -120,7 +139,7 @@ pub(crate) fn pair_off(
 {
     let mut left = *required;
     while let Some(v) = first_odd(town, &left) {
-        left = pair(town, &left, v, heap)?;
+        left = Subgraph { town, set: &left }.pair(v, heap)?;
     }
     Ok(xor(required, &left))
 }

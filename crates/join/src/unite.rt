@@ -12,6 +12,7 @@ use crate::sets::{flip, xor};
 use crate::weighted::Weighted;
 use std::array::from_fn;
 
+// `Classed` is no invariant of the type: a charge changes the lengths while the classes stay.
 impl Classes {
     // The way to crossing v.
     pub(crate) fn way_to(&self, v: usize) -> &[bool; 300]
@@ -25,7 +26,7 @@ impl Classes {
     fn absorb(&mut self, from: usize, to: usize, link: &[bool; 300])
         ensures { Absorbed from to (marked link.now) self.old self.new 100 }
     {
-        // By index: over labels and ways zipped by `iter_mut` no proof was found.
+        // By number, since of labels that `iter_mut` zips with ways nothing is known after the loop.
         for v in 0..100 {
             if self.label[v] == from {
                 self.label[v] = to;
@@ -78,7 +79,7 @@ impl Classes {
         from_fn(|v| self.label[v] == self.label[b])
     }
 
-    // A set that goes on by the way from b to x in their class, and then over street k.
+    // A set that goes on by the way from b to x in their class, and then over street k. Each call has others.
     pub(crate) fn lead_on(&self, drives: &[bool; 300], b: usize, x: usize, k: usize) -> [bool; 300]
         requires { (b < 100) × ((x < 100) × (k < 300)) }
         ensures { marked result ≡ (marked drives.now ⊞ (way_in self.now b ⊞ way_in self.now x)) ⊞ single k }

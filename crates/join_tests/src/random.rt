@@ -6,7 +6,7 @@ use std::alloc::AllocGlobal;
 use std::array;
 use std::process::Abort;
 use std::test::Fail;
-use test_towns::Random;
+use test_towns::{Quarter, Random};
 
 // More than any cost.
 const FAR: u64 = 1_000_000;
@@ -67,19 +67,15 @@ impl Costs {
 }
 
 // Checks the prices of a town of at most 8 crossings and 14 streets beside the least of all sets.
-fn check_small(
-    rt: &(impl Abort + AllocGlobal),
-    crossings: u64,
-    streets: &[[u64; 3]],
-    depot: u64,
-) -> Result<(), Fail> {
-    let town = SoundTown::take(crossings, streets.as_flattened(), depot)?;
+fn check_small(rt: &(impl Abort + AllocGlobal), quarter: Quarter) -> Result<(), Fail> {
+    let town = SoundTown::take(quarter.crossings, quarter.numbers, quarter.depot)?;
     let drives = LeastDrives::new(&town, rt.alloc())?;
     check_shown(rt, &drives);
+    let streets = quarter.streets();
     let costs = Costs::of(streets);
     let (odd, _) = odd_and_cost(streets, u64::MAX);
     for (u, (reached, set)) in (0..8).zip(drives.reached.iter().zip(&drives.extra)) {
-        let cost = costs.at(odd ^ bit(depot) ^ bit(u));
+        let cost = costs.at(odd ^ bit(quarter.depot) ^ bit(u));
         if *reached {
             assert_eq!(rt; set.price.unsigned_abs(), cost);
         } else {
@@ -97,7 +93,7 @@ fn small_towns(rt: HostRuntime) -> Result<(), Fail> {
         let count = random.below(15) as usize;
         let streets = streets::<14>(&mut random, crossings, 4);
         let depot = random.below(crossings.min(count as u64 + 1));
-        check_small(&rt, crossings, &streets[..count], depot)?;
+        check_small(&rt, Quarter::new(crossings, &streets[..count], depot))?;
     }
     Ok(())
 }

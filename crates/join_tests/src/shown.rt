@@ -45,19 +45,12 @@ fn is_charged(town: &Town, stage: &Stage) -> bool {
     (out % 2 == 1) != stage.marks[town.depot] && (1..=10_000_000).contains(&stage.charge)
 }
 
-// What the classes charge a street.
-fn street_charge(stages: &[Stage], street: &Street) -> u64 {
-    let charging = stages.iter().filter(|stage| leads_out(stage, street));
+// What the classes that count are charged together.
+fn charge<F: Fn(&Stage) -> bool>(stages: &[Stage], counts: F) -> u64
+    requires { F.IsAlwaysCallable counts }
+{
+    let charging = stages.iter().filter(|stage| counts(stage));
     let charges = charging.map(|stage| stage.charge.unsigned_abs());
-    charges.fold(0, u64::saturating_add)
-}
-
-// What the classes without a crossing are charged.
-fn crossing_charge(stages: &[Stage], u: usize) -> u64 {
-    let without = stages
-        .iter()
-        .filter(|stage| stage.marks.get(u) == Some(&false));
-    let charges = without.map(|stage| stage.charge.unsigned_abs());
     charges.fold(0, u64::saturating_add)
 }
 
@@ -66,7 +59,8 @@ fn check_stages(rt: &impl Abort, town: &Town, stages: &[Stage]) {
     assert!(rt; stages.len() <= 400);
     assert!(rt; stages.iter().all(|stage| is_charged(town, stage)));
     for street in town.streets() {
-        assert!(rt; street_charge(stages, street) <= street.long.saturating_mul(2));
+        let charged = charge(stages, |stage| leads_out(stage, street));
+        assert!(rt; charged <= street.long.saturating_mul(2));
     }
 }
 
@@ -81,7 +75,8 @@ pub(crate) fn check_shown(rt: &impl Abort, drives: &LeastDrives) {
             assert!(rt; set.price >= 0);
             assert!(rt; leads_to(town, &set.drives, u));
             assert_eq!(rt; set.price.unsigned_abs(), cost(town, &set.drives));
-            assert_eq!(rt; set.price.unsigned_abs(), crossing_charge(stages, u));
+            let charged = charge(stages, |stage| stage.marks.get(u) == Some(&false));
+            assert_eq!(rt; set.price.unsigned_abs(), charged);
         }
     }
 }

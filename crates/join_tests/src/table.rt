@@ -3,7 +3,9 @@ use crate::common::{check_from, check_town};
 use join::LeastDrives;
 use road::SoundTown;
 use std::test::Fail;
-use test_towns::{FOUR_COMPLETE, LOOP, PARALLEL, QUARTER, ROAD, STAR, TWO_RINGS, TWO_ROWS};
+use test_towns::{
+    FOUR_COMPLETE, LOOP, PARALLEL, QUARTER, Quarter, ROAD, STAR, TWO_RINGS, TWO_ROWS,
+};
 
 #[test]
 fn worked(rt: HostRuntime) -> Result<(), Fail> {
@@ -30,8 +32,8 @@ fn no_streets(rt: HostRuntime) -> Result<(), Fail> {
 
 #[test]
 fn crossings_apart(rt: HostRuntime) -> Result<(), Fail> {
-    check_from(&rt, 4, &[[1, 2, 3]], 1, 3)?;
-    check_from(&rt, 100, &[[99, 7, 3], [7, 50, 0]], 50, 3)
+    check_from(&rt, Quarter::new(4, &[[1, 2, 3]], 1), 3)?;
+    check_from(&rt, Quarter::new(100, &[[99, 7, 3], [7, 50, 0]], 50), 3)
 }
 
 #[test]

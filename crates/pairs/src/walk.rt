@@ -42,7 +42,7 @@ pub fn maximal_trail<S: Multiset>(
 {
     let mut legs = Vec::new(heap);
     let mut at = start;
-    // A labelled loop, left when the walk closes, as all walks over streets are written.
+    // A labelled loop, left when the walk closes: the project writes its walks over streets so.
     'walk: loop {
         let Some(leg) = next_leg(town, left, at) else {
             break 'walk;

@@ -1,7 +1,9 @@
 // Towns by hand.
 use crate::common::{check_from, check_town};
 use std::test::Fail;
-use test_towns::{FOUR_COMPLETE, LOOP, PARALLEL, QUARTER, ROAD, STAR, TWO_RINGS, TWO_ROWS};
+use test_towns::{
+    FOUR_COMPLETE, LOOP, PARALLEL, QUARTER, Quarter, ROAD, STAR, TWO_RINGS, TWO_ROWS,
+};
 
 #[test]
 fn no_pairs(rt: HostRuntime) -> Result<(), Fail> {
@@ -38,8 +40,8 @@ fn rings(rt: HostRuntime) -> Result<(), Fail> {
 // Crossings without streets are in no pair.
 #[test]
 fn crossings_apart(rt: HostRuntime) -> Result<(), Fail> {
-    check_from(&rt, 4, &[[1, 2, 3]], 1, 1, 3)?;
-    check_from(&rt, 100, &[[99, 7, 3], [7, 50, 0]], 50, 1, 3)
+    check_from(&rt, Quarter::new(4, &[[1, 2, 3]], 1), 1, 3)?;
+    check_from(&rt, Quarter::new(100, &[[99, 7, 3], [7, 50, 0]], 50), 1, 3)
 }
 
 // The nearest odd crossings, 1 and 2, are not paired.

@@ -8,7 +8,7 @@ use round::{NoPlan, Plan, plan_and_check};
 use std::alloc::Global;
 use text::{PlanNumbers, TownText, plan_text};
 
-// The plan at the fronts of the rooms.
+// The plan at the fronts of the rooms. The rooms, the plan and the sum come from three calls, and only here together.
 fn fronts<'a>(
     crossings: u64,
     legs: &'a [u64],

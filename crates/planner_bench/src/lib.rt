@@ -66,7 +66,7 @@ impl From<Plan> for Planned {
     }
 }
 
-// The plan for the town of these numbers, written to the rooms; no leg if there is none.
+// The plan for the town of these numbers, written to the rooms; no leg if there is none. C++ calls it.
 #[unsafe(no_mangle)]
 pub extern "C" fn plan_town(
     crossings: u64,

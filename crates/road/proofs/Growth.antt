@@ -1,25 +1,30 @@
 -- Marks that grow over a street. Assumes nothing.
-use Rattle.std.proofs.Common.{◌≡◌, ℕ, ◌<◌, Bool, true, false, not, eqb, List, length, set, sym, refl, ap, ◌∙◌, ⊎_elim, arith}
+use Rattle.std.proofs.Common.{◌≡◌, ℕ, ◌<◌, Bool, true, false, not, eqb, List, length, set, sym, refl, ap, ap₂, ◌∙◌, ⊎_elim, arith}
 use Rattle.std.proofs.lemmas.List.{length-set, get_or_past, get_or-set_same, get_or-set_other}
-use Rattle.std.proofs.lemmas.Bool.{cases_eq, cases_lt, both_ways, eqb-true, eq-eqb}
-use Rattle.road.specs.Roads.{Street, Town, street}
-use Rattle.road.specs.Counts.{◌⊕◌, bit, size, one, two, Set, cut, Side, forth, back}
+use Rattle.std.proofs.lemmas.Bool.{cases_eq, cases_lt, both_ways, eqb-true, eq-eqb, not-true}
+use Rattle.road.specs.Roads.{pick, Leg, Town, into}
+use Rattle.road.specs.Counts.{bit, size, one, two, Set, cut, Side, forth, back}
 use Rattle.road.specs.Reach.{reached}
 use Rattle.road.specs.Model.{marked}
 use Rattle.road.specs.Growth.{Grown, unmarked}
 use Rattle.road.proofs.Sums.{sum_point}
 use Rattle.road.proofs.Reached.{across, reached_start, reached_closed}
 
--- the end of a street that is inside, where the first is, and where it is not
-pub outer_two : (t : Town) (k : ℕ) (Z : Set) (s : Street) → s ≡ street t k → Z s.one ≡ true → (x : ℕ) × Side t k x s.two × (Z x ≡ true)
-outer_two t k Z s e i = rw e (one t k, forth, rw e at i)
-
-pub outer_one : (t : Town) (k : ℕ) (Z : Set) (s : Street) → s ≡ street t k → cut t Z k ≡ true → Z s.one ≡ false → (x : ℕ) × Side t k x s.one × (Z x ≡ true)
-outer_one t k Z s e c o = rw e (two t k, back, other (Z (one t k)) (Z (two t k)) (rw e at o) c)
+-- a leg that begins at the end of a cut street that is inside, and ends at the other
+pub leads_out : (t : Town) (k : ℕ) (Z : Set) (l : Leg) (y : ℕ) → l.by ≡ k → l.back ≡ not (Z (one t k)) → cut t Z k ≡ true → y ≡ into t l → (x : ℕ) × Side t k x y × (Z x ≡ true) × (Z y ≡ false)
+unfolding into
+leads_out t k Z l y by turned c e = at (Z (one t k)) refl
   where
-    other : (a b : Bool) → a ≡ false → a ⊕ b ≡ true → b ≡ true
-    other true b p q = absurd (both_ways true p refl)
-    other false b p q = q
+    ends : (b : Bool) → Z (one t k) ≡ b → y ≡ pick (not b) (one t k) (two t k)
+    ends b z = e ∙ ap₂ (λ r i. pick r (one t i) (two t i)) (turned ∙ ap not z) by
+
+    at : (b : Bool) → Z (one t k) ≡ b → (x : ℕ) × Side t k x y × (Z x ≡ true) × (Z y ≡ false)
+    at true z =
+        let o : Z (two t k) ≡ false = not-true (Z (two t k)) (rw z at c) in
+        rw (ends true z) (one t k, forth, z, o)
+    at false z =
+        let o : Z (two t k) ≡ true = rw z at c in
+        rw (ends false z) (two t k, back, o, z)
 
 -- one crossing more is marked
 pub unmarked_set : (ms : List Bool) (y : ℕ) → length ms ≡ 100 → y < 100 → marked ms y ≡ false → unmarked (set ms y true) < unmarked ms

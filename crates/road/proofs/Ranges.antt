@@ -1,4 +1,4 @@
--- What chains over the numbers below a bound find, and how many they count. Assumes nothing.
+-- What chains over the numbers below a bound find, how many they count, and what they sum. Assumes nothing.
 use Rattle.std.proofs.Common.{◌≡◌, ℕ, zero, suc, ◌+◌, ◌%◌, ◌<◌, ◌≤◌, Bool, true, false, ◌&&◌, List, [], ◌∷◌, length, filter, map, fold, take, Option, Some, None, MatchOption, ℤ, pos, ◌+ℤ◌, FitsSigned, w64, refl, sym, ap, ap₂, ◌∙◌, subst, ⊎_elim, eqb, map-id, zero-add, arith, rules}
 use Rattle.std.proofs.iter.Yields.{nat_range_steps}
 use Rattle.std.proofs.iter.runs.Made.{at-is}
@@ -7,7 +7,7 @@ use Rattle.std.proofs.lemmas.Bool.{both_ways, cases_eq, false_from_ne_true}
 use Rattle.std.proofs.lemmas.Int.{ints}
 use Rattle.std.proofs.lemmas.Iterator.{YieldsList, first_from_Range, YieldsList-from_range, YieldsList-from_map}
 use Rattle.std.proofs.lemmas.Iterator.Adapters.{total_from_yields_List}
-use Rattle.std.proofs.lemmas.Iterator.Consumers.{count_from_yields_List, YieldsList-from_filter, YieldsList-so_far}
+use Rattle.std.proofs.lemmas.Iterator.Consumers.{count_from_yields_List, fits_by_from_yields_list, sum_by_from_yields_List, YieldsList-from_filter, YieldsList-so_far}
 use Rattle.std.proofs.lemmas.List.Sums.{sum_by-cons}
 use Rattle.std.proofs.lemmas.Option.{slice_get_within}
 use Rattle.std.specs.Bool.{⊤}
@@ -226,7 +226,21 @@ module _ {F : Type 0} {g : Mut F (ℕ × Unit {0}) (Option ℤ)} {f : F} (n : �
       MatchOption r ((k : ℕ) → k < n → test k ≡ false) (λ m. (k : ℕ) × (k < n) × (test k ≡ true) × (m ≡ pos (w k)) × ((j : ℕ) → j < n → test j ≡ true → w k ≤ w j))
   least_below r ran runs = let q = runs ran.0 ran.0.seen ran.1 in least ran.0 q.0 q.1 ran.2 q.2 r ran.3
 
--- sums of signed numbers, none negative
+-- what a chain gives for each number below n
+given_below : {F B : Type 0} {g : Mut F (ℕ × Unit {0}) B} {s : Map (Range ℕ) F} {f : F} (n : ℕ) (h : ℕ → B) → map_source s ≡ record { start = 0; end = n } → map_callee s ≡ f →
+    ((x : ℕ) (r : B) (q : F) → Called g f (x, tt) r q → (q ≡ f) × (r ≡ h x)) → YieldsList (map_steps nat_range_steps g) (λ x. x) s (map h (range_with_len 0 n))
+given_below {g = g} n h source maps_by gives = YieldsList-from_map g h (YieldsList-from_range 0 n n source (omega arith)) maps_by gives
+
+-- the sum of what is given fits, and is what they are together
+module _ {F : Type 0} {g : Mut F (ℕ × Unit {0}) ℕ} {s : Map (Range ℕ) F} {f : F} (n : ℕ) (l : ℕ → ℕ) (source : map_source s ≡ record { start = 0; end = n }) (maps_by : map_callee s ≡ f)
+    (gives : (x : ℕ) (r : ℕ) (q : F) → Called g f (x, tt) r q → (q ≡ f) × (r ≡ l x)) where
+  pub sum_fits : (top : ℕ) → sum n l < top → EachRunFrom (map_steps nat_range_steps g) s (λ p. fold (λ a x. a + x) 0 p.items < top)
+  sum_fits top most = fits_by_from_yields_list l (range_with_len 0 n) s top (given_below n l source maps_by gives) (subst (λ m. m < top) (sym (total_below l n)) most)
+
+  pub sum_is : (r : ℕ) → (xs : List ℕ) × (⊤ → Drains (map_steps nat_range_steps g) s xs) × (r ≡ fold (λ a x. a + x) 0 xs) → r ≡ sum n l
+  sum_is r ran = sum_by_from_yields_List l (range_with_len 0 n) s r ran (given_below n l source maps_by gives) ∙ total_below l n
+
+-- the same of signed numbers, none negative
 signed_front : (l : ℕ → ℕ) (a : ℕ) (ks : List ℕ) (m : ℕ) → (b : ℕ) × (fold ◌+ℤ◌ (pos a) (take m (map (λ k. pos (l k)) ks)) ≡ pos b) × (b ≤ a + sum_by l ks)
 signed_front l a ks zero = (a, refl, omega arith)
 signed_front l a [] (suc m) = (a, refl, omega arith)
@@ -236,16 +250,14 @@ signed_all : (l : ℕ → ℕ) (a : ℕ) (ks : List ℕ) → fold ◌+ℤ◌ (po
 signed_all l a [] = let z : a ≡ a + 0 = omega arith in ap pos z
 signed_all l a (k ∷ ks) = let z : a + l k + sum_by l ks ≡ a + sum_by l (k ∷ ks) = omega (arith, sum_by-cons l k ks) in signed_all l (a + l k) ks ∙ ap pos z
 
--- the amounts of the numbers below n, as a chain gives them
 module _ {F : Type 0} {g : Mut F (ℕ × Unit {0}) ℤ} {s : Map (Range ℕ) F} {f : F} (n : ℕ) (l : ℕ → ℕ) (source : map_source s ≡ record { start = 0; end = n }) (maps_by : map_callee s ≡ f)
     (gives : (x : ℕ) (r : ℤ) (q : F) → Called g f (x, tt) r q → (q ≡ f) × (r ≡ pos (l x))) where
   abbrev ks : List ℕ
   ks = range_with_len 0 n
 
   amounts : YieldsList (map_steps nat_range_steps g) (λ x. x) s (map (λ k. pos (l k)) ks)
-  amounts = YieldsList-from_map g (λ k. pos (l k)) (YieldsList-from_range 0 n n source (omega arith)) maps_by gives
+  amounts = given_below n (λ k. pos (l k)) source maps_by gives
 
-  -- their sum fits
   pub signed_fits : sum n l ≤ 1200000000000 → EachRunFrom (map_steps nat_range_steps g) s (λ p. FitsSigned w64 (fold ◌+ℤ◌ (pos 0) p.items))
   unfolding YieldsRun
   signed_fits most = λ p _ at.
@@ -254,6 +266,5 @@ module _ {F : Type 0} {g : Mut F (ℕ × Unit {0}) ℤ} {s : Map (Range ℕ) F} 
       let fits : FitsSigned w64 (pos b.0) = omega (arith, ints, total_below l n) in
       subst (λ xs. FitsSigned w64 (fold ◌+ℤ◌ (pos 0) xs)) (sym so_far ∙ map-id p.items) (subst (FitsSigned w64) (sym b.1) fits)
 
-  -- and is what they are together
   pub signed_is : (r : ℤ) → (xs : List ℤ) × (⊤ → Drains (map_steps nat_range_steps g) s xs) × (r ≡ fold ◌+ℤ◌ (pos 0) xs) → r ≡ pos (sum n l)
   signed_is r ran = total_from_yields_List ◌+ℤ◌ (pos 0) r ran amounts ∙ signed_all l 0 ks ∙ ap pos (zero-add (sum_by l ks) ∙ total_below l n)

@@ -77,7 +77,7 @@ impl Town {
     }
 
     // Whether the legs are a drive from start to end over each required street; else the first leg that does not begin where the one before
-    // ended, or that the drive does not end there, or the first required street that is left out.
+    // ended, or that the drive does not end there, or the first required street that is left out. No other function takes the four together.
     pub fn check_drive(
         &self,
         start: usize,

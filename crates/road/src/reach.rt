@@ -1,26 +1,23 @@
 // What can be come to from the depot: marks of crossings, grown until nothing changes.
-ghost use Rattle.std.specs.Prelude.{◌≡◌, ℕ, ◌<◌, true, false};
-ghost use Rattle.road.specs.Counts.{cut, Side};
+ghost use Rattle.std.specs.Prelude.{◌≡◌, ℕ, ◌<◌, false, not};
+ghost use Rattle.road.specs.Counts.{cut, one};
 ghost use Rattle.road.specs.Reach.{reached};
 ghost use Rattle.road.specs.Model.{model, marked};
 ghost use Rattle.road.specs.Growth.{Grown, Closed, Tried};
 
-use crate::Town;
+use crate::{Leg, Town};
 
+// `Grown` stands in contracts: a struct of a town and its marks would say in each of them, in its place, that the town stays.
 impl Town {
-    // The end of street k that is not marked, where just one is.
-    fn outer_end(&self, k: usize, marks: &[bool; 100]) -> usize
-        requires below { k < self.now.count }
-        requires cut { cut (model self.now) (marked marks.now) k ≡ true }
-        ensures side { (x : ℕ) × Side (model self.now) k x result × (marked marks.now x ≡ true) }
-        ensures outside { marked marks.now result ≡ false }
-        ensures below { result < 100 }
+    // Street k as a leg: where just one of its ends is marked, the leg begins there.
+    pub fn leg_out(&self, k: usize, marks: &[bool; 100]) -> Leg
+        ensures by { result.by ≡ k }
+        ensures back { result.back ≡ not (marked marks.now (one (model self.now) k)) }
     {
         let street = self.street(k);
-        if marks[street.one] {
-            street.two
-        } else {
-            street.one
+        Leg {
+            by: k,
+            back: !marks[street.one],
         }
     }
 
@@ -35,7 +32,7 @@ impl Town {
         if marks[street.one] == marks[street.two] {
             return false;
         }
-        let y = self.outer_end(k, marks);
+        let y = self.end_of(self.leg_out(k, marks));
         marks[y] = true;
         true
     }

@@ -5,7 +5,8 @@ ghost use Rattle.road.specs.Limits.{Within};
 
 use crate::Street;
 
-// The first `count` of the streets are the town's.
+// The first `count` of the streets are the town's. An array and no `Vec`, since taking a town allocates nothing; that a crossing or a street is below its bound stands in contracts,
+// since a type for each number would be taken apart wherever an array is read.
 #[derive(Drop)]
 pub struct Town {
     pub crossings: usize,

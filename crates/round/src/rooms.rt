@@ -6,7 +6,7 @@ ghost use Rattle.join.specs.Certified.{sheet_of};
 ghost use Rattle.round.specs.Rooms.{leg_number, part_numbers, sheet_numbers, part_of, AllMarked, over};
 
 use join::Stage;
-use road::Leg;
+use road::{Leg, Town};
 
 // What is written as one number.
 pub(crate) trait Numbered {
@@ -47,45 +47,43 @@ pub(crate) fn write_front<T: Numbered>(room: &mut [u64], items: &[T])
 }
 
 // A class as a part, at the front of the room.
-pub(crate) fn write_part(room: &mut [u64], stage: &Stage, crossings: usize)
-    requires few { crossings ≤ 100 }
-    requires long { 1 + crossings ≤ length room.old }
-    ensures { room.new ≡ over (part_numbers (part_of crossings stage.now)) room.old }
+pub(crate) fn write_part(room: &mut [u64], stage: &Stage, town: &Town)
+    requires { 1 + town.now.crossings ≤ length room.old }
+    ensures { room.new ≡ over (part_numbers (part_of town.now.crossings stage.now)) room.old }
 {
     room[0] = stage.charge.unsigned_abs();
-    write_front(&mut room[1..], &stage.marks[..crossings]);
+    write_front(&mut room[1..], &stage.marks[..town.crossings]);
 }
 
 // Whether a class is a part of the sheet: the depot is not in it.
-fn is_part(stage: &Stage, depot: usize) -> bool
-    requires { depot < 100 }
-    ensures is { marked stage.now.marks depot ≡ not result }
+fn is_part(stage: &Stage, town: &Town) -> bool
+    ensures is { marked stage.now.marks town.now.depot ≡ not result }
     ensures places { length stage.now.marks ≡ 100 }
 {
-    !stage.marks[depot]
+    !stage.marks[town.depot]
 }
 
 // How many parts the sheet of the classes has: those without the depot.
-pub(crate) fn count_parts(stages: &[Stage], depot: usize) -> usize
-    requires { depot < 100 }
-    ensures { (n : ℕ) → result ≡ length (sheet_of n depot stages.now) }
+pub(crate) fn count_parts(stages: &[Stage], town: &Town) -> usize
+    ensures { result ≡ length (sheet_of town.now.crossings town.now.depot stages.now) }
 {
-    stages.iter().filter(|stage| is_part(stage, depot)).count()
+    stages.iter().filter(|stage| is_part(stage, town)).count()
 }
 
 // The classes without the depot as parts, one after the other, at the front of the room. The room from one part on is lent on to write the next.
-pub(crate) fn write_parts(room: &mut [u64], stages: &[Stage], crossings: usize, depot: usize)
-    requires few { crossings ≤ 100 }
-    requires home { depot < 100 }
-    requires long { length (sheet_of crossings depot stages.now) * (1 + crossings) ≤ length room.old }
-    ensures written { room.new ≡ over (sheet_numbers (sheet_of crossings depot stages.now)) room.old }
-    ensures marks { AllMarked crossings (sheet_of crossings depot stages.now) }
+pub(crate) fn write_parts(room: &mut [u64], stages: &[Stage], town: &Town)
+    requires { length (sheet_of town.now.crossings town.now.depot stages.now) * (1 + town.now.crossings) ≤ length room.old }
+    ensures written { room.new ≡ over (sheet_numbers (sheet_of town.now.crossings town.now.depot stages.now)) room.old }
+    ensures marks { AllMarked town.now.crossings (sheet_of town.now.crossings town.now.depot stages.now) }
 {
-    let mut at = 0;
-    for stage in stages {
-        if is_part(stage, depot) {
-            write_part(&mut room[at..], stage, crossings);
-            at += 1 + crossings;
-        }
+    let [stage, others @ ..] = stages else {
+        return;
+    };
+    if is_part(stage, town) {
+        let (part, rest) = room.split_at_mut(1 + town.crossings);
+        write_part(part, stage, town);
+        write_parts(rest, others, town);
+    } else {
+        write_parts(room, others, town);
     }
 }

@@ -52,11 +52,11 @@ pub(crate) fn write_plan(
 {
     let town = &least.town.town;
     let stages = least.stages.as_slice();
-    let count = count_parts(stages, town.depot);
+    let count = count_parts(stages, town);
     check_room(round.len(), legs)?;
     check_room(count * (1 + town.crossings), parts)?;
     write_front(legs, round);
-    write_parts(parts, stages, town.crossings, town.depot);
+    write_parts(parts, stages, town);
     Ok(Plan {
         legs: round.len(),
         parts: count,

@@ -1,9 +1,9 @@
 // Towns by rule: rings, roads, stars, ladders, grids, complete graphs, and as many crossings and streets as may be.
 use crate::fits::check_rooms;
-use crate::planned::{Quarter, check_from, check_town};
+use crate::planned::{check_from, check_town};
 use std::alloc::{AllocError, Global};
 use std::test::*;
-use test_towns::{complete, grid};
+use test_towns::{Quarter, complete, grid};
 
 // Crossings in a ring.
 fn ring(heap: Global, crossings: u64, long: u64) -> Result<Vec<[u64; 3]>, AllocError> {
@@ -37,37 +37,45 @@ fn rings(rt: HostRuntime) -> Result<(), Fail> {
     check_town(&rt, 1, &ring(heap, 1, 3)?, 3)?;
     check_town(&rt, 2, &ring(heap, 2, 3)?, 6)?;
     check_town(&rt, 9, &ring(heap, 9, 5)?, 45)?;
-    check_from(&rt, 100, &ring(heap, 100, 100_000)?, 37, 10_000_000)
+    check_from(
+        &rt,
+        Quarter::new(100, &ring(heap, 100, 100_000)?, 37),
+        10_000_000,
+    )
 }
 
 #[test]
 fn trees(rt: HostRuntime) -> Result<(), Fail> {
     let heap = rt.alloc();
-    check_from(&rt, 100, &grid(heap, 1, 100, 100_000)?, 50, 19_800_000)?;
+    check_from(
+        &rt,
+        Quarter::new(100, &grid(heap, 1, 100, 100_000)?, 50),
+        19_800_000,
+    )?;
     check_town(&rt, 6, &star(heap, 6)?, 30)?;
-    check_from(&rt, 100, &star(heap, 100)?, 99, 9_900)
+    check_from(&rt, Quarter::new(100, &star(heap, 100)?, 99), 9_900)
 }
 
 #[test]
 fn ladders(rt: HostRuntime) -> Result<(), Fail> {
     let heap = rt.alloc();
     check_town(&rt, 10, &grid(heap, 2, 5, 3)?, 48)?;
-    check_from(&rt, 100, &grid(heap, 2, 50, 1)?, 31, 196)
+    check_from(&rt, Quarter::new(100, &grid(heap, 2, 50, 1)?, 31), 196)
 }
 
 #[test]
 fn grids(rt: HostRuntime) -> Result<(), Fail> {
     let heap = rt.alloc();
     check_town(&rt, 9, &grid(heap, 3, 3, 1)?, 16)?;
-    check_from(&rt, 100, &grid(heap, 10, 10, 1)?, 99, 196)
+    check_from(&rt, Quarter::new(100, &grid(heap, 10, 10, 1)?, 99), 196)
 }
 
 #[test]
 fn complete_graphs(rt: HostRuntime) -> Result<(), Fail> {
     let heap = rt.alloc();
     check_town(&rt, 6, &complete(heap, 6)?, 18)?;
-    check_from(&rt, 24, &complete(heap, 24)?, 11, 288)?;
-    check_from(&rt, 25, &complete(heap, 25)?, 24, 300)
+    check_from(&rt, Quarter::new(24, &complete(heap, 24)?, 11), 288)?;
+    check_from(&rt, Quarter::new(25, &complete(heap, 25)?, 24), 300)
 }
 
 // All streets as long as may be, and streets of other lengths.
@@ -76,6 +84,6 @@ fn limits(rt: HostRuntime) -> Result<(), Fail> {
     let heap = rt.alloc();
     let streets = full(heap, 0)?;
     assert_eq!(rt; streets.len(), 300);
-    check_from(&rt, 100, &streets, 62, 35_000_000)?;
-    check_rooms(&rt, &Quarter::new(100, &full(heap, 617)?, 8))
+    check_from(&rt, Quarter::new(100, &streets, 62), 35_000_000)?;
+    check_rooms(&rt, Quarter::new(100, &full(heap, 617)?, 8))
 }

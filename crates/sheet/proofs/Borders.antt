@@ -1,10 +1,9 @@
 -- The border of a part as a cut; how often drives and streets cross it, as sums; what streets bear. Assumes nothing.
-use Rattle.std.proofs.Common.{◌≡◌, ℕ, ◌+◌, ◌*◌, ◌%◌, ◌<◌, ◌≤◌, Bool, true, false, eqb, List, [], ◌∷◌, length, get_or, drop, sym, refl, ap, ◌∙◌, arith}
-use Rattle.std.proofs.lemmas.List.{at_drop_more, at_drop_all}
+use Rattle.std.proofs.Common.{◌≡◌, ℕ, ◌+◌, ◌*◌, ◌%◌, Bool, true, false, eqb, List, [], ◌∷◌, length, get_or, sym, refl, ap, ◌∙◌, arith}
 use Rattle.road.specs.declared.street.Street.{Street}
 use Rattle.road.specs.declared.leg.Leg.{Leg}
-use Rattle.road.specs.Roads.{pick, Town, street, Drive, times, no_street}
-use Rattle.road.specs.Counts.{bit, odd, sum, par, size, cut}
+use Rattle.road.specs.Roads.{Town, street, Drive, times, no_street}
+use Rattle.road.specs.Counts.{when, bit, odd, sum, par, size, cut}
 use Rattle.road.proofs.Parity.{odd_bit, odd_mod}
 use Rattle.road.proofs.Sums.{sum_front, par_ext, odd_sum}
 use Rattle.road.proofs.Drives.{along, along_sum, drive_cut}
@@ -60,20 +59,15 @@ ways_odd t ms =
     test true = refl
     test false = refl
 
--- what the parts from place i on weigh, and what a street bears of them
-pub load_more : (ps : List Part) (i : ℕ) (s : Street) → i < length ps →
-    load (drop i ps) s ≡ pick (leads_out (get_or ps i no_part).marks s) (get_or ps i no_part).weight 0 + load (drop (i + 1) ps) s
-unfolding load
-load_more ps i s h = at_drop_more (λ (qs : List Part). load qs s) ps i no_part h
+-- what the parts weigh, and what a street bears of them, as sums
+pub weights_sum : (ps : List Part) → weights ps ≡ sum (length ps) (λ i. (get_or ps i no_part).weight)
+unfolding weights sum
+weights_sum [] = refl
+weights_sum (p ∷ ps) = ap (λ m. p.weight + m) (weights_sum ps) ∙ sym (sum_front (length ps) (λ i. (get_or (p ∷ ps) i no_part).weight))
 
-pub load_all : (ps : List Part) (i : ℕ) (s : Street) → length ps ≤ i → load (drop i ps) s ≡ 0
-unfolding load
-load_all ps i s h = at_drop_all (λ (qs : List Part). load qs s) ps i h
-
-pub weights_more : (ps : List Part) (i : ℕ) → i < length ps → weights (drop i ps) ≡ (get_or ps i no_part).weight + weights (drop (i + 1) ps)
-unfolding weights
-weights_more ps i h = at_drop_more weights ps i no_part h
-
-pub weights_all : (ps : List Part) (i : ℕ) → length ps ≤ i → weights (drop i ps) ≡ 0
-unfolding weights
-weights_all ps i h = at_drop_all weights ps i h
+pub load_sum : (ps : List Part) (s : Street) → load ps s ≡ sum (length ps) (λ i. when (leads_out (get_or ps i no_part).marks s) (get_or ps i no_part).weight)
+unfolding load sum
+load_sum [] s = refl
+load_sum (p ∷ ps) s =
+    ap (λ m. when (leads_out p.marks s) p.weight + m) (load_sum ps s)
+    ∙ sym (sum_front (length ps) (λ i. when (leads_out (get_or (p ∷ ps) i no_part).marks s) (get_or (p ∷ ps) i no_part).weight))

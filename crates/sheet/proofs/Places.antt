@@ -1,13 +1,16 @@
 -- Parts as numbers: what stands at which place. Assumes nothing.
-use Rattle.std.proofs.Common.{◌≡◌, ℕ, zero, suc, ◌+◌, ◌*◌, ◌<◌, Bool, false, not, ltb, List, [], ◌∷◌, length, get_or, take, drop, sym, refl, ap, ◌∙◌, ap₂, suc-mul, zero-mul, arith}
+use Rattle.std.proofs.Common.{◌≡◌, ℕ, zero, suc, ◌+◌, ◌*◌, ◌/◌, ◌<◌, ◌≤◌, Bool, false, not, ltb, List, [], ◌∷◌, length, get_or, take, drop, sym, refl, ap, ◌∙◌, ap₂, subst, suc-mul, zero-mul, arith}
 use mathlib.Core.Bool.{beq}
 use Rattle.std.proofs.lemmas.List.{drop-drop, get_or-drop, get_or-take}
 use Rattle.road.specs.declared.street.Street.{Street}
-use Rattle.road.specs.Counts.{◌⊕◌}
+use Rattle.road.specs.Counts.{◌⊕◌, sum}
 use Rattle.road.specs.Model.{marked}
 use Rattle.road.proofs.Parity.{unequal}
+use Rattle.road.proofs.Sums.{sum_most}
+use Rattle.sheet.specs.declared.parts.Parts.{Parts}
 use Rattle.sheet.specs.Sheet.{Part, no_part, leads_out}
 use Rattle.sheet.specs.Numbers.{marks_in, parts_in}
+use Rattle.sheet.specs.Model.{parts_of}
 
 -- the part at the front of the numbers
 abbrev pub front : ℕ → List ℕ → Part
@@ -49,3 +52,22 @@ mark_at m n xs i a v h e l =
 pub leads_is : (ms : List Bool) (s s' : Street) (a b : Bool) → a ≡ marked ms s.one → b ≡ marked ms s.two → s ≡ s' → not (beq a b) ≡ leads_out ms s'
 unfolding leads_out
 leads_is ms s s' a b p q e = unequal a b ∙ ap₂ (λ x y. x ⊕ y) p q ∙ ap (λ (z : Street). marked ms z.one ⊕ marked ms z.two) e
+
+-- how many parts there are
+pub count_is : (p : Parts) → length (parts_of p) ≡ length p.numbers.now / (1 + p.town.now.crossings)
+count_is p = length_parts (length p.numbers.now / (1 + p.town.now.crossings)) p.town.now.crossings p.numbers.now
+
+-- a part stands within the numbers
+pub part_within : (p : Parts) (i : ℕ) → i < length (parts_of p) → i * (1 + p.town.now.crossings) + p.town.now.crossings < length p.numbers.now
+part_within p i h = grind (arith, h, count_is p, p.whole)
+
+-- what the parts weigh together, at most
+abbrev pub weight_in : Parts → ℕ → ℕ
+weight_in p i = (get_or (parts_of p) i no_part).weight
+
+pub weights_most : (p : Parts) → sum (length (parts_of p)) (weight_in p) ≤ 4000000000
+weights_most p =
+    let e = count_is p in
+    let light : (i : ℕ) → i < length (parts_of p) → weight_in p i ≤ 10000000 =
+    λ i h. subst (λ w. w ≤ 10000000) (weight_at _ p.town.now.crossings p.numbers.now i (i * (1 + p.town.now.crossings)) (subst (λ m. i < m) e h) refl) (p.light i (subst (λ m. i < m) e h)) in
+    omega (arith, sum_most (length (parts_of p)) 10000000 (weight_in p) light, e, p.few)

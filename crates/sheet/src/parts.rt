@@ -1,15 +1,15 @@
 // The parts of a sheet of a town, over lent numbers.
-ghost use Rattle.std.specs.Prelude.{◌≡◌, ℕ, ◌+◌, ◌*◌, ◌<◌, ◌≤◌, length, slice_index};
+ghost use Rattle.std.specs.Prelude.{◌≡◌, ℕ, ◌+◌, ◌*◌, ◌/◌, ◌<◌, ◌≤◌, length, slice_index};
 
 use road::Town;
 
 // For each part its weight and then a mark for each crossing.
+// That the number of a part is below their count stands in contracts: it is a plain number out of `0..self.count()`, and no type of its own, since each `Parts` has its own count.
 #[derive(Clone, Copy)]
 pub struct Parts<'t, 'n> {
     pub town: &'t Town,
     pub numbers: &'n [u64],
-    pub count: usize,
-    ghost few: { count ≤ 400 },
-    ghost whole: { length numbers.now ≡ count * (1 + town.now.crossings) },
-    ghost light: { (i : ℕ) → i < count → slice_index numbers.now (i * (1 + town.now.crossings)) ≤ 10000000 },
+    ghost few: { length numbers.now / (1 + town.now.crossings) ≤ 400 },
+    ghost whole: { length numbers.now ≡ (length numbers.now / (1 + town.now.crossings)) * (1 + town.now.crossings) },
+    ghost light: { (i : ℕ) → i < length numbers.now / (1 + town.now.crossings) → slice_index numbers.now (i * (1 + town.now.crossings)) ≤ 10000000 },
 }

@@ -8,9 +8,16 @@ ghost use Rattle.sheet.specs.Model.{parts_of, town_of};
 use crate::parts::Parts;
 
 impl Parts<'_, '_> {
+    // How many parts there are.
+    pub(crate) fn count(&self) -> usize
+        ensures { result ≡ length (parts_of self.now) }
+    {
+        self.numbers.len() / (1 + self.town.crossings)
+    }
+
     // Where part i begins.
     fn begin(&self, i: usize) -> usize
-        requires { i < self.now.count }
+        requires { i < length (parts_of self.now) }
         ensures is { result ≡ i * (1 + self.now.town.now.crossings) }
         ensures room { result + self.now.town.now.crossings < length self.now.numbers.now }
     {
@@ -18,7 +25,7 @@ impl Parts<'_, '_> {
     }
 
     pub(crate) fn weight(&self, i: usize) -> u64
-        requires { i < self.now.count }
+        requires { i < length (parts_of self.now) }
         ensures is { result ≡ (slice_index_or (parts_of self.now) i no_part).weight }
         ensures light { result ≤ 10000000 }
     {
@@ -26,7 +33,7 @@ impl Parts<'_, '_> {
     }
 
     fn is_marked(&self, i: usize, v: usize) -> bool
-        requires part { i < self.now.count }
+        requires part { i < length (parts_of self.now) }
         requires crossing { v < self.now.town.now.crossings }
         ensures { result ≡ marked (slice_index_or (parts_of self.now) i no_part).marks v }
     {
@@ -35,7 +42,7 @@ impl Parts<'_, '_> {
 
     // Whether street k leads out of part i.
     pub(crate) fn leads_out(&self, i: usize, k: usize) -> bool
-        requires { i < self.now.count }
+        requires { i < length (parts_of self.now) }
         ensures { result ≡ leads_out (slice_index_or (parts_of self.now) i no_part).marks (street (town_of self.now) k) }
     {
         let street = self.town.street(k);

@@ -2,6 +2,7 @@
 #![tactic(auto)]
 
 mod drive;
+mod given;
 mod random;
 mod rule;
 #[cfg(test)]
@@ -9,6 +10,7 @@ mod tests;
 mod worked;
 
 pub use drive::end_of_drive;
+pub use given::Quarter;
 pub use random::Random;
 pub use rule::{complete, grid};
 pub use worked::{APART, FOUR_COMPLETE, LOOP, PARALLEL, QUARTER, ROAD, STAR, TWO_RINGS, TWO_ROWS};

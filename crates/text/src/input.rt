@@ -16,7 +16,7 @@ fn read_standard_input(rt: &HostRuntime) -> Result<String, Error> {
 }
 
 // The text of the file that is the one argument, or of standard input if there is none or it is -.
-fn read_input(rt: &HostRuntime) -> Result<String, Error> {
+pub fn read_input(rt: &HostRuntime) -> Result<String, Error> {
     let args = env::args(rt).map_err(|e| Error::Unread(Source::Arguments, e))?;
     let mut args = args.skip(1);
     let Some(name) = args.next() else {
@@ -33,7 +33,7 @@ fn read_input(rt: &HostRuntime) -> Result<String, Error> {
 }
 
 // Says an error on standard error, in one line, and hands the result on.
-fn report(rt: &HostRuntime, res: Result<(), Error>) -> Result<(), Error>
+pub fn report(rt: &HostRuntime, res: Result<(), Error>) -> Result<(), Error>
     ensures { result ≡ res }
 {
     if let Err(e) = &res {

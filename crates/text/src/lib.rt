@@ -13,7 +13,7 @@ mod texts;
 mod word;
 
 pub use error::{Error, Source};
-pub use input::run;
+pub use input::{read_input, report, run};
 pub use line_fault::LineFault;
 pub use plan_lines::{PlanNumbers, plan_text};
 pub use refusal_words::{RefusalWords, numbered};

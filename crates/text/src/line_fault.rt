@@ -40,7 +40,7 @@ pub enum LineFault {
     Memory,
 }
 
-// These two are written by hand, since what a derive writes does not say which fault it gives.
+// These two are written by hand: they say which fault they give, as what a derive writes does not.
 impl From<AllocError> for LineFault {
     ghost from_gives = { λ _ r. r ≡ Memory };
 

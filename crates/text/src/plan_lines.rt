@@ -5,15 +5,16 @@ ghost use Rattle.road.specs.Numbers.{leg_in, legs_in};
 ghost use Rattle.sheet.specs.Numbers.{marks_in, sheet_in};
 ghost use Rattle.text.specs.Plans.{leg_text, round_line, length_line, mark_text, marks_text, part_in, part_line, planned_text};
 
+use road::Leg;
 use std::alloc::{AllocError, Global};
 
 // A leg: its street's number, with b if it is driven back.
 fn write_leg(out: &mut String, leg: u64) -> Result<(), AllocError>
     ensures { OnOk result (string_bytes out.new ≡ string_bytes out.old ++ leg_text (leg_in leg)) }
 {
-    let street = leg / 2;
-    let mark = if leg % 2 == 1 { "b" } else { "" };
-    write!(out, " {street}{mark}")
+    let Leg { by, back } = Leg::from(leg);
+    let mark = if back { "b" } else { "" };
+    write!(out, " {by}{mark}")
 }
 
 // The legs of a round.

@@ -5,7 +5,7 @@ ghost use Rattle.road.specs.Refusals.{listed};
 use road::Refusal;
 use std::fmt;
 
-// A type of its own, since the refusal's own crate has no words for it and needs none.
+// A type of its own, as `Display` for another crate's type needs; with a derive the words of the programs would stand in `road`, which has none.
 #[derive(Clone, Copy)]
 pub struct RefusalWords(pub Refusal);
 
@@ -25,7 +25,6 @@ pub fn numbered(refusal: Refusal) -> (u64, u64)
     }
 }
 
-// By hand: a derive writes words beside the cases, and these are declared in a crate that has no words.
 impl fmt::Display for RefusalWords {
     fn fmt<W: fmt::Write>(&self, f: &mut fmt::Formatter<W>) -> fmt::Result {
         let (number, place) = numbered(self.0);

@@ -3,11 +3,10 @@ use road::Fault;
 use sheet::{SheetFault, Word};
 use std::fmt;
 
-// A type of its own, since the words stand in this crate and `Word` is of one that has none.
+// A type of its own, as `Display` for another crate's type needs; with a derive the words of the programs would stand in `sheet` and `road`, which have none.
 #[derive(Clone, Copy)]
 pub struct Said(pub Word);
 
-// By hand: a derive writes words beside the cases, and these are declared in a crate that has no words.
 impl fmt::Display for Said {
     fn fmt<W: fmt::Write>(&self, f: &mut fmt::Formatter<W>) -> fmt::Result {
         match self.0 {

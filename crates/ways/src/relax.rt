@@ -29,13 +29,10 @@ impl Way {
 fn none_yet(crossings: usize, heap: Global) -> Result<Vec<Option<Way>>, AllocError>
     ensures { IfOk result (λ v. v.items ≡ replicate crossings None) }
 {
-    let mut ways = Vec::new(heap);
-    for _ in 0..crossings {
-        ways.push(None)?;
-    }
-    Ok(ways)
+    (0..crossings).map(|_| None).collect(heap)
 }
 
+// `Come` is no invariant of the type: ways don't hold their town, so that whoever has some need not hold it.
 impl Ways {
     // Only the way to the start itself, over no leg.
     pub(crate) fn only_start(start: usize, town: &Town, heap: Global) -> Result<Ways, AllocError>

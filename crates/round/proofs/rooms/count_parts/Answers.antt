@@ -13,8 +13,8 @@ turned b true e = cc
 turned b false e = cc
 
 pub returns : goal.returns
-returns c n =
+returns c =
     count_from_yields_List c.filter.result c.count.result c.count.ensures.ran
-    (YieldsList-from_filter _ (λ (s : Stage). not (marked s.marks c.args.depot)) (YieldsList-at c.filter.ensures.source (YieldsList-from_slice c.args.stages.now c.iter.ensures.rest)) c.filter.ensures.closure
+    (YieldsList-from_filter _ (λ (s : Stage). not (marked s.marks c.args.town.now.depot)) (YieldsList-at c.filter.ensures.source (YieldsList-from_slice c.args.stages.now c.iter.ensures.rest)) c.filter.ensures.closure
     (λ x r q k. search (rules, tests, turned)))
-    ∙ parts_counted n c.args.depot c.args.stages.now
+    ∙ parts_counted c.args.town.now.crossings c.args.town.now.depot c.args.stages.now

@@ -19,7 +19,7 @@ pub overflow_mul-count : goal.overflow_mul-count
 overflow_mul-count c =
     let s = c.args.least.now in
     let t = s.town.now.town in
-    let e = c.count_parts-count.ensures t.crossings ∙ ap (λ ss. length (sheet_of t.crossings (depot_of s) ss)) c.as_slice-stages.ensures.value in
+    let e = c.count_parts-count.ensures ∙ ap (λ ss. length (sheet_of t.crossings (depot_of s) ss)) c.as_slice-stages.ensures.value in
     let few : c.count_parts-count.result ≤ 400 = omega (arith, e, (least_drives s).few) in
     let wide : 1 + t.crossings ≤ 101 = omega (arith, t.most) in
     omega (arith, mul-le-mul few wide)
@@ -40,7 +40,7 @@ returns c =
     let ps = sheet_from s in
     let same = c.as_slice-stages.ensures.value in
     let n = s.town.now.town.crossings in
-    let count = c.count_parts-count.ensures n ∙ ap (λ ss. length (sheet_of n (depot_of s) ss)) same in
+    let count = c.count_parts-count.ensures ∙ ap (λ ss. length (sheet_of n (depot_of s) ss)) same in
     written_fits t ls ps c.args.legs.now c.args.parts.now _ _ _ c.in_ok-check_room.ensures.0
     (subst (λ m. unless {B = ℕ × ℕ} (nat_le (m * (1 + n)) (length c.args.parts.now)) (6, m * (1 + n)) ≡ None) count c.in_ok-check_room-2.ensures.0) (record {
       round = c.write_front.ensures;

@@ -1,18 +1,17 @@
--- The steps of the proof of `check_weights` that are not found by search.
-use Rattle.std.proofs.Common.{ℕ, ◌+◌, ◌*◌, leb, get_or, arith}
-use Rattle.std.proofs.lemmas.Bool.{lt-leb, leb-true}
-use Rattle.road.proofs.First.{all_kept, first_broken}
+-- The step of the proof of `check_weights` that is not found by search.
+use Rattle.std.proofs.Common.{ℕ, ◌+◌, ◌*◌, ◌/◌, ◌<◌, ◌≤◌, refl, rules, tests, leb, length, get_or, arith}
+use Rattle.std.proofs.lemmas.Bool.{leb-true}
+use Rattle.road.specs.declared.refusal.Refusal.TheVariants.{Parts}
+use Rattle.road.specs.Refusals.{listed}
+use Rattle.road.proofs.First.{says_found}
+use Rattle.sheet.proofs.Chunks.{chunk_broken}
 use Rattle.sheet.proofs.take.check_weights.Goals as goal
-
-pub returns-then-numbers-i-gt10000000 : goal.returns-then-numbers-i-gt10000000
-returns-then-numbers-i-gt10000000 c =
-    let weight : ℕ → ℕ = λ i. get_or c.args.numbers.now (i * (1 + c.args.crossings)) 0 in
-    first_broken _ (λ i. leb (weight i) 10000000) (λ i. (8, i)) c.loop-i.i c.loop-i-test.true c.loop-i.invariant
-    (lt-leb (weight c.loop-i.i) 10000000 c.if-numbers-i-gt10000000.true)
 
 pub returns : goal.returns
 returns c =
-    let weight : ℕ → ℕ = λ i. get_or c.args.numbers.now (i * (1 + c.args.crossings)) 0 in (
-      all_kept _ (λ i. leb (weight i) 10000000) (λ i. (8, i)) (λ i h. c.loop-i.invariant i (omega arith)),
-      λ i h. leb-true (weight i) 10000000 (c.loop-i.invariant i (omega arith)),
-    )
+    let n = c.args.town.now.crossings in
+    let xs = c.args.numbers.now in
+    let found = chunk_broken (1 + n) xs (λ w. leb w 10000000) c.position.result (omega arith) c.chunks_exact.ensures.rest c.chunks_exact.ensures.size c.chunks_exact.ensures.runs c.position.ensures.runs
+    (λ x b q k. search (rules, tests)) in
+    says_found listed _ _ (λ i. (8, i)) (λ _. (i : ℕ) → i < length xs / (1 + n) → get_or xs (i * (1 + n)) 0 ≤ 10000000) tt Parts _ c.map_or.result found (search rules) (λ k. refl)
+    (λ h i l. leb-true (get_or xs (i * (1 + n)) 0) 10000000 (h i l))

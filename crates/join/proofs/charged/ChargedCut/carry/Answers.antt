@@ -18,8 +18,8 @@ returns-then-outs-le1 c =
     let v = c.args.self.now.level.now in
     let s = c.args.self.now.stage.now in
     let Z = marked s.marks in
-    let J = marked c.args.found.now.drives in
-    let u = c.args.found.now.crossing in
+    let J = marked c.args.found.drives in
+    let u = c.args.found.crossing in
     let o = c.requires in
     let few = one_few (town_in p) (start_in p) (lengths_at v) (potential_at v) s.base Z (amount s.charge) (extra_in c.args.self.now.prices.now s.base) c.args.self.now.held.stage
     c.args.self.now.held.base u J o.joins (subst (λ n. n ≤ 1) c.outs.ensures c.if-outs-le1.true) in
@@ -28,16 +28,16 @@ returns-then-outs-le1 c =
 pub returns-in-Lower : goal.returns-in-Lower
 returns-in-Lower c =
     let r = c.in-Some.ensures in
-    let s = c.in-Lower.ensures c.args.found.now.crossing c.loop-circuit.invariant.1.joins in
+    let s = c.in-Lower.ensures c.loop-circuit.found.crossing c.loop-circuit.invariant.1.joins in
     let f = c.in-Some.circuit in
     record {
-      met = exit_reached c.args.self.now.prices.now.problem (marked c.args.self.now.stage.now.marks) (marked c.loop-circuit.drives) f.out.street f.out.inner f.out.outer r.out;
+      met = exit_reached c.args.self.now.prices.now.problem (marked c.args.self.now.stage.now.marks) (marked c.loop-circuit.found.drives) f.out.street f.out.inner f.out.outer r.out;
       joins = s.0;
       cheap = s.1;
     }
 
 pub loop-circuit-smaller : goal.loop-circuit-smaller
-loop-circuit-smaller c = let s = c.in-Fewer.ensures c.args.found.now.crossing c.loop-circuit.invariant.1.joins in omega (arith, s.1)
+loop-circuit-smaller c = let s = c.in-Fewer.ensures c.loop-circuit.found.crossing c.loop-circuit.invariant.1.joins in omega (arith, s.1)
 
 pub loop-circuit-preserved : goal.loop-circuit-preserved
 loop-circuit-preserved c =
@@ -45,8 +45,8 @@ loop-circuit-preserved c =
     let v = c.args.self.now.level.now in
     let s = c.args.self.now.stage.now in (
       search rules,
-      over_fewer (town_in p) (start_in p) (reached_in p) (lengths_at v) (potential_at v) (marked s.marks) (amount s.charge) c.args.found.now.crossing
-          (marked c.loop-circuit.drives) (marked c.in-Fewer.fewer) c.loop-circuit.invariant.1 (c.in-Fewer.ensures c.args.found.now.crossing c.loop-circuit.invariant.1.joins),
+      over_fewer (town_in p) (start_in p) (reached_in p) (lengths_at v) (potential_at v) (marked s.marks) (amount s.charge) c.loop-circuit.found.crossing
+          (marked c.loop-circuit.found.drives) (marked c.in-Fewer.fewer) c.loop-circuit.invariant.1 (c.in-Fewer.ensures c.loop-circuit.found.crossing c.loop-circuit.invariant.1.joins),
     )
 
 pub returns : goal.returns
@@ -55,8 +55,8 @@ returns c =
     let v = c.args.self.now.level.now in
     let s = c.args.self.now.stage.now in
     let Z = marked s.marks in
-    let J = marked c.loop-circuit.drives in
-    let u = c.args.found.now.crossing in
+    let J = marked c.loop-circuit.found.drives in
+    let u = c.loop-circuit.found.crossing in
     let o = c.loop-circuit.invariant.1 in
     let r = c.in_default.ensures in
     let lone : AllLone (town_in p) Z J (marked c.extra_for-base.result.now) (size (town_in p)) = λ k h. r k (omega (arith, size_model p.streets.town.now)) in

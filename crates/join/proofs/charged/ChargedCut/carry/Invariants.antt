@@ -10,9 +10,9 @@ use Rattle.join.proofs.charged.ChargedCut.carry.Given as goal
 
 abbrev pub invariant-loop-circuit : goal.invariant-loop-circuit
 invariant-loop-circuit l =
-    (length l.drives ≡ 300)
+    (length l.found.drives ≡ 300)
     × Over (town_in l.self.prices.now.problem) (start_in l.self.prices.now.problem) (reached_in l.self.prices.now.problem) (lengths_at l.self.level.now) (potential_at l.self.level.now) (marked l.self.stage.now.marks) (amount l.self.stage.now.charge)
-    l.found.crossing (marked l.drives)
+    l.found.crossing (marked l.found.drives)
 
 abbrev pub decreases-loop-circuit : goal.decreases-loop-circuit
-decreases-loop-circuit l = outs (town_in l.self.prices.now.problem) (marked l.self.stage.now.marks) (marked l.drives)
+decreases-loop-circuit l = outs (town_in l.self.prices.now.problem) (marked l.self.stage.now.marks) (marked l.found.drives)

@@ -22,7 +22,7 @@ returns-in-Some-clause-finds c =
     let k = c.in-Some.k in
     look_better c.args.self.now.prices.now c.args.self.now.level.now c.args.self.now.classes.now b c.args.self.now.pass c.args.self.now.classed c.args.self.now.merged
     c.least-b.ensures.lowest c.least-b.ensures.below (marked c.class_of-marks.result) c.class_of-marks.ensures
-    k c.inner_end-x.result c.outer_end-y.result (d.0, sym (ap (λ f. f k) e) ∙ d.1, d.2) c.inner_end-x.ensures.is c.outer_end-y.ensures.is
+    k c.inner_end-x.result c.outer_end.result (d.0, sym (ap (λ f. f k) e) ∙ d.1, d.2) c.inner_end-x.ensures.is c.outer_end.ensures.is
     (marked c.lead_on.result) (c.lead_on.ensures ∙ ap (λ J. (J ⊞ (w b ⊞ w c.inner_end-x.result)) ⊞ single k) e)
 
 pub least_slack-requires-clause-room : goal.least_slack-requires-clause-room

@@ -9,4 +9,4 @@ use Rattle.join.proofs.packing.CutPacking.descend.Given as goal
 abbrev pub invariant-loop-i : goal.invariant-loop-i
 invariant-loop-i l =
     After l.self.prices.now l.self.stages.now l.i l.level
-    × Cheaper (town_in l.self.prices.now.problem) (start_in l.self.prices.now.problem) (reached_in l.self.prices.now.problem) (lengths_at l.level) (potential_at l.level) l.best.crossing (marked l.best.drives)
+    × Cheaper (town_in l.self.prices.now.problem) (start_in l.self.prices.now.problem) (reached_in l.self.prices.now.problem) (lengths_at l.level) (potential_at l.level) l.found.crossing (marked l.found.drives)
