@@ -9,6 +9,7 @@ use crate::circuit::{Circuit, Exit};
 use crate::component::Component;
 use crate::cut::Cut;
 use crate::sets::xor;
+use crate::subgraph::Subgraph;
 use std::array::from_fn;
 
 impl Cut<'_, '_> {
@@ -68,7 +69,11 @@ impl Cut<'_, '_> {
             (Closes (ground self.now) (side_of self.now) (marked drives.now) (marked base.now)) }
     {
         let out = self.exit_at(k);
-        component.search(self.town, &self.outside(drives, base), out.outer);
+        let outside = Subgraph {
+            town: self.town,
+            set: &self.outside(drives, base),
+        };
+        component.search(&outside, out.outer);
         let j = self.second_exit(drives, &component.marks, k)?;
         let back = self.exit_at(j);
         let far = *component.path_to(back.outer);

@@ -8,7 +8,7 @@ ghost use Rattle.join.specs.Components.{path_in, Grown, Closed};
 use crate::component::Component;
 use crate::cut::Cut;
 use crate::sets::{flip, only};
-use road::Town;
+use crate::subgraph::Subgraph;
 
 // It grows as what can be come to from the depot does in `road`, but over a set of streets and with a way to each crossing; there marks are enough, and nothing is allocated.
 // `Grown` is no invariant of the type: the room is kept from one set of streets to the next.
@@ -21,19 +21,19 @@ impl Component {
         &self.path[v]
     }
 
-    // Comes over street k to a new crossing if it is allowed, and says whether it does.
-    fn grow_over(&mut self, town: &Town, allowed: &[bool; 300], k: usize) -> bool
-        requires below { k < town.now.count }
-        requires grown { Grown (model town.now) (marked allowed.now) self.old }
-        ensures grown { Grown (model town.now) (marked allowed.now) self.new }
+    // Comes over street k to a new crossing if it is in the set, and says whether it does.
+    fn grow_over(&mut self, graph: &Subgraph, k: usize) -> bool
+        requires below { k < graph.now.town.now.count }
+        requires grown { Grown (model graph.now.town.now) (marked graph.now.set.now) self.old }
+        ensures grown { Grown (model graph.now.town.now) (marked graph.now.set.now) self.new }
         ensures from { self.new.from ≡ self.old.from }
-        ensures tried { Tried self.old.marks self.new.marks result (marked allowed.now k ≡ true → cuts (model town.now) (marked self.old.marks) k ≡ false) }
+        ensures tried { Tried self.old.marks self.new.marks result (marked graph.now.set.now k ≡ true → cuts (model graph.now.town.now) (marked self.old.marks) k ≡ false) }
     {
         let cut = Cut {
-            town,
+            town: graph.town,
             marks: &self.marks,
         };
-        if !allowed[k] || !cut.has(k) {
+        if !graph.set[k] || !cut.has(k) {
             return false;
         }
         let x = cut.inner_end(k);
@@ -43,30 +43,30 @@ impl Component {
         true
     }
 
-    // Comes over each allowed street once, and says whether it came to a new crossing.
-    fn grow(&mut self, town: &Town, allowed: &[bool; 300]) -> bool
-        requires { Grown (model town.now) (marked allowed.now) self.old }
-        ensures grown { Grown (model town.now) (marked allowed.now) self.new }
+    // Comes over each street of the set once, and says whether it came to a new crossing.
+    fn grow(&mut self, graph: &Subgraph) -> bool
+        requires { Grown (model graph.now.town.now) (marked graph.now.set.now) self.old }
+        ensures grown { Grown (model graph.now.town.now) (marked graph.now.set.now) self.new }
         ensures from { self.new.from ≡ self.old.from }
-        ensures tried { Tried self.old.marks self.new.marks result (Closed (model town.now) (marked allowed.now) self.new.marks town.now.count) }
+        ensures tried { Tried self.old.marks self.new.marks result (Closed (model graph.now.town.now) (marked graph.now.set.now) self.new.marks graph.now.town.now.count) }
     {
         let mut more = false;
-        for k in 0..town.count {
-            more |= self.grow_over(town, allowed, k);
+        for k in 0..graph.town.count {
+            more |= self.grow_over(graph, k);
         }
         more
     }
 
-    // Comes to all that can be come to from a crossing over allowed streets.
-    pub(crate) fn search(&mut self, town: &Town, allowed: &[bool; 300], from: usize)
+    // Comes to all that can be come to from a crossing over streets of the set.
+    pub(crate) fn search(&mut self, graph: &Subgraph, from: usize)
         requires { from < 100 }
-        ensures grown { Grown (model town.now) (marked allowed.now) self.new }
+        ensures grown { Grown (model graph.now.town.now) (marked graph.now.set.now) self.new }
         ensures from { self.new.from ≡ from }
-        ensures closed { Closed (model town.now) (marked allowed.now) self.new.marks town.now.count }
+        ensures closed { Closed (model graph.now.town.now) (marked graph.now.set.now) self.new.marks graph.now.town.now.count }
     {
         self.from = from;
         self.marks = only(from);
         self.path[from] = [false; 300];
-        while self.grow(town, allowed) {}
+        while self.grow(graph) {}
     }
 }

@@ -32,6 +32,7 @@ mod shift;
 mod solve;
 mod stage;
 mod start;
+mod subgraph;
 mod tally;
 mod turn;
 mod turns;

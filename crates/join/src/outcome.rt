@@ -1,4 +1,4 @@
-// What comes of an exchange along a circuit. Neither set is an error, so the two have names in place of a `Result`.
+// What comes of an exchange along a circuit. Two sets, each with a name: as a `Result` or a `ControlFlow` of two sets they would have none, so these would be no plainer.
 #[derive(Drop)]
 pub(crate) enum Outcome {
     // A set for the first crossing outside that costs less than its potential.

@@ -1,4 +1,4 @@
-// The classes that a pass charged, one after the other: a packing of cuts into the costs of the streets.
+// The classes that a pass charged, one after the other: a packing of cuts into the costs of the streets. `After` stands in contracts, since the level changes from stage to stage.
 ghost use Rattle.std.specs.Prelude.{length};
 ghost use Rattle.join.specs.Passes.{AllStaged};
 

@@ -47,31 +47,30 @@ impl Prices<'_, '_> {
         self.extra[u] = PricedDrives { drives, price };
     }
 
-    // Comes to one end of street k from the other where that is cheaper, and says whether it is.
-    fn relax_over(&mut self, k: usize, back: bool) -> bool
-        requires { k < self.old.problem.streets.town.now.count }
-        ensures { Lowered self.old self.new result (Near self.old k back) }
+    // Comes to the end of a leg from its beginning where that is cheaper, and says whether it is.
+    fn relax_over(&mut self, leg: Leg) -> bool
+        requires { leg.by < self.old.problem.streets.town.now.count }
+        ensures { Lowered self.old self.new result (Near self.old leg.by leg.back) }
     {
         let streets = &self.problem.streets;
-        let leg = Leg { by: k, back };
         let x = streets.town.begin_of(leg);
         let y = streets.town.end_of(leg);
-        let cost = streets.cost_flipped(self.extra_for(x), k, self.price_for(x));
+        let cost = streets.cost_flipped(self.extra_for(x), leg.by, self.price_for(x));
         if cost < self.price_for(y) {
-            self.replace(y, flip(self.extra_for(x), k), cost);
+            self.replace(y, flip(self.extra_for(x), leg.by), cost);
             return true;
         }
         false
     }
 
-    // Comes over each street both ways where that is cheaper, and says whether any is.
+    // Comes over each street both ways where that is cheaper, and says whether any is. The sweep of `ways` has its own steps, which may want memory.
     fn sweep(&mut self) -> bool
         ensures { Lowered self.old self.new result (AllNear self.new self.new.problem.streets.town.now.count) }
     {
         let mut lower = false;
         for k in 0..self.problem.streets.town.count {
-            lower |= self.relax_over(k, false);
-            lower |= self.relax_over(k, true);
+            lower |= self.relax_over(Leg { by: k, back: false });
+            lower |= self.relax_over(Leg { by: k, back: true });
         }
         lower
     }

@@ -8,16 +8,10 @@ ghost use Rattle.join.specs.Joins.{◌⊞◌, single, Joins, once};
 ghost use Rattle.join.specs.Odd.{odd_at, odds, streets_of, Low, Other};
 
 use crate::sets::{flip, xor};
+use crate::subgraph::Subgraph;
 use road::{Leg, Town};
 use std::alloc::{AllocError, Global};
 use ways::{NoWays, Way, Ways};
-
-// A town with the streets of a set alone.
-#[derive(Clone, Copy)]
-struct Subgraph<'a> {
-    town: &'a Town,
-    set: &'a [bool; 300],
-}
 
 impl Subgraph<'_> {
     // Whether street k is in the set and has just one end at a crossing.

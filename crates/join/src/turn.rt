@@ -2,7 +2,7 @@
 ghost use Rattle.std.specs.Prelude.{◌≡◌, pos};
 ghost use Rattle.join.specs.Amounts.{amount};
 
-// A set of extra drives for a crossing.
+// A set of extra drives for a crossing. That it is cheaper (`Cheaper`) stands in contracts, since it is so at one level after the other.
 #[derive(Drop)]
 pub(crate) struct Found {
     pub crossing: usize,
@@ -18,7 +18,7 @@ pub struct Stage {
     ghost whole: { charge ≡ pos (amount charge) },
 }
 
-// One of three ends, each with a name of its own: as a `Result` of an `Option` they would have none.
+// One of three ends, each with a name: as a `Result` or a `ControlFlow` of an `Option` they would have none, so these would be no plainer.
 pub(crate) enum Turn {
     // A set that costs less than the potential of its crossing.
     Better(Found),

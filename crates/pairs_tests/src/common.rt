@@ -24,7 +24,7 @@ pub(crate) fn check_from(
 }
 
 // The same from every crossing.
-// Those of join_tests and round_tests are apart: one for all would take the check as a closure, which each of its calls would have to write.
+// What is expected stands beside what is given. Those of join_tests and round_tests are apart: one for all would take the check as a closure, which each of its calls would have to write.
 pub(crate) fn check_town(
     rt: &(impl Abort + AllocGlobal),
     crossings: u64,

@@ -27,7 +27,7 @@ const TEXTS: [(&str, &str); 6] = [
     ),
 ];
 
-// The other programs have such a loop too: one for all would stand in a library, and a library may not assert.
+// The other programs have such a loop too: one for all would take the answer and its words as closures, which each program would have to write.
 #[test]
 fn texts(rt: HostRuntime) -> Result<(), Fail> {
     let heap = rt.alloc();

@@ -8,7 +8,7 @@ use round::{NoPlan, Plan, plan_and_check};
 use std::alloc::Global;
 use text::{PlanNumbers, TownText, plan_text};
 
-// The plan at the fronts of the rooms. The rooms, the plan and the sum come from three calls, and only here together.
+// The plan at the fronts of the rooms. The rooms, the plan and the sum come from three calls, and only here together. `check_fronts` of `round` cuts the same fronts: a function for both would be public, and would have to refuse what both know.
 fn fronts<'a>(
     crossings: u64,
     legs: &'a [u64],

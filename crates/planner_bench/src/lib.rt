@@ -47,7 +47,7 @@ pub extern "C" fn least_drives(
         .unwrap_or_default()
 }
 
-// How many legs and parts a plan has, and the length of its round in metres.
+// How many legs and parts a plan has, and the length of its round in metres, as C++ reads them.
 #[repr(C)]
 #[derive(Clone, Copy, Default)]
 pub struct Planned {

@@ -82,7 +82,7 @@ fn read_streets(numbers: &[u64]) -> [Street; 300]
 }
 
 impl Town {
-    // The town of these numbers, three for each street; or the first refusal of 1 to 4 that applies.
+    // The town of these numbers, three for each street; or the first refusal of 1 to 4 that applies. The three are a town, and one thing, only when they are taken.
     pub fn take(crossings: u64, numbers: &[u64], depot: u64) -> Result<Town, Refusal>
         ensures { Answers (town_refusal crossings numbers.now depot) (λ t. (model t ≡ town_in crossings numbers.now) × (t.depot ≡ depot)) result }
     {

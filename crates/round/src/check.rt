@@ -38,7 +38,7 @@ fn check_fronts(
 }
 
 // Plans the town of the numbers, and has the checker look at what was written: a refusal of the list, want of memory, or shortest.
-// As `plan_round`, it takes numbers and rooms as they are; a struct would be taken apart at once.
+// A struct of the six would be taken apart at once.
 pub fn plan_and_check(
     crossings: u64,
     streets: &[u64],

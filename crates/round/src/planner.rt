@@ -12,7 +12,7 @@ use std::alloc::Global;
 
 // Plans the town of the numbers: writes a shortest round and a sheet that agrees with it to the front of the rooms,
 // or answers the first refusal of 1 to 6 that applies, or want of memory, and leaves the rooms as they were.
-// Numbers and rooms are taken as a caller in C lends them.
+// Numbers and rooms are taken as `planner_bench`, which C++ calls, hands them on.
 pub fn plan_round(
     crossings: u64,
     streets: &[u64],

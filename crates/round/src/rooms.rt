@@ -8,7 +8,7 @@ ghost use Rattle.round.specs.Rooms.{leg_number, part_numbers, sheet_numbers, par
 use join::Stage;
 use road::{Leg, Town};
 
-// What is written as one number.
+// What is written as one number. No `Into<u64>`: the law says which number it is, and only what fits may be written.
 pub(crate) trait Numbered {
     ghost number: { Self → ℕ };
 

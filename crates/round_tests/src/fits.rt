@@ -8,7 +8,7 @@ use std::process::Abort;
 use std::test::*;
 use test_towns::{LOOP, Quarter, ROAD, STAR};
 
-// Checks that rooms of these lengths are refused, and as they were.
+// Checks that rooms of these lengths are refused, and as they were: what is expected stands beside what is given.
 fn check_short(
     rt: &(impl Abort + AllocGlobal),
     quarter: Quarter,

@@ -48,7 +48,7 @@ impl Parts<'_, '_> {
 }
 
 // The word on a round and a sheet, given as anybody may have written them; or the first refusal of 1 to 4, 7 and 8 that applies.
-// Nothing is allocated and nothing lent is changed. The signature is public and stays; a struct would be taken apart at once.
+// Nothing is allocated and nothing lent is changed. A struct of the five would be taken apart at once.
 pub fn check_round(
     crossings: u64,
     streets: &[u64],

@@ -4,7 +4,7 @@ ghost use Rattle.std.specs.Prelude.{◌≡◌, ℕ, ◌+◌, ◌*◌, ◌/◌, �
 use road::Town;
 
 // For each part its weight and then a mark for each crossing.
-// That the number of a part is below their count stands in contracts: it is a plain number out of `0..self.count()`, and no type of its own, since each `Parts` has its own count.
+// A part goes by its number, with the bound on it in contracts, and is no slice of its own: the first part that breaks a rule is told by its number, and a list of slices would be numbered again.
 #[derive(Clone, Copy)]
 pub struct Parts<'t, 'n> {
     pub town: &'t Town,

@@ -5,7 +5,7 @@ ghost use Rattle.road.specs.Refusals.{listed};
 use road::Refusal;
 use std::fmt;
 
-// A type of its own, as `Display` for another crate's type needs; with a derive the words of the programs would stand in `road`, which has none.
+// A type of its own, as `Display` for another crate's type needs. A derive is no plainer: the words of the programs would stand in `road`, which has none.
 #[derive(Clone, Copy)]
 pub struct RefusalWords(pub Refusal);
 

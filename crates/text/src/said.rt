@@ -3,7 +3,7 @@ use road::Fault;
 use sheet::{SheetFault, Word};
 use std::fmt;
 
-// A type of its own, as `Display` for another crate's type needs; with a derive the words of the programs would stand in `sheet` and `road`, which have none.
+// A type of its own, as `Display` for another crate's type needs. A derive is no plainer: the words of the programs would stand in `sheet` and `road`, which have none.
 #[derive(Clone, Copy)]
 pub struct Said(pub Word);
 

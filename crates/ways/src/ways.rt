@@ -9,7 +9,7 @@ use crate::{NoWays, Way};
 use road::Town;
 use std::alloc::Global;
 
-// Way v is the way from the start to crossing v.
+// Way v is the way from the start to crossing v. That it is a shortest one (`AllShown`) stands in contracts, since ways don't hold their town.
 #[derive(Drop)]
 pub struct Ways {
     pub(crate) start: usize,

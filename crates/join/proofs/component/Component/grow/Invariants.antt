@@ -7,5 +7,5 @@ use Rattle.join.proofs.component.Component.grow.Given as goal
 
 abbrev pub invariant-loop-k : goal.invariant-loop-k
 invariant-loop-k l =
-    Grown (model l.town) (marked l.allowed) l.self × (l.self.from ≡ l.initial.self.from)
-    × Tried l.initial.self.marks l.self.marks l.more (Closed (model l.town) (marked l.allowed) l.self.marks l.k)
+    Grown (model l.graph.town.now) (marked l.graph.set.now) l.self × (l.self.from ≡ l.initial.self.from)
+    × Tried l.initial.self.marks l.self.marks l.more (Closed (model l.graph.town.now) (marked l.graph.set.now) l.self.marks l.k)

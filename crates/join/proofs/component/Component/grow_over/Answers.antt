@@ -11,14 +11,14 @@ use Rattle.join.proofs.component.Component.grow_over.Goals as goal
 
 pub returns : goal.returns
 returns c =
-    let t = model c.args.town.now in
-    let A = marked c.args.allowed.now in
+    let t = model c.args.graph.now.town.now in
+    let A = marked c.args.graph.now.set.now in
     let s = c.args.self.now in
     let k = c.args.k in
     let x = c.inner_end-x.result in
     let y = c.outer_end-y.result in
-    let h : k < size t = omega (arith, size_model c.args.town.now, c.requires.below) in
-    let own = c.if-not-allowed-k.false in
+    let h : k < size t = omega (arith, size_model c.args.graph.now.town.now, c.requires.below) in
+    let own = c.if-not-graph-k.false in
     let cuts = sym c.has.ensures ∙ c.if-not-has.false in
     let ex = c.inner_end-x.ensures.is in
     let ey = c.outer_end-y.ensures.is in

@@ -6,6 +6,6 @@ use Rattle.join.proofs.component.Component.search.Goals as goal
 
 pub loop-init : goal.loop-init
 loop-init c = (
-  grown_start (model c.args.town.now) (marked c.args.allowed.now) c.args.self.now _ (replicate 300 false) c.args.from c.requires refl refl c.only-self.ensures refl,
+  grown_start (model c.args.graph.now.town.now) (marked c.args.graph.now.set.now) c.args.self.now _ (replicate 300 false) c.args.from c.requires refl refl c.only-self.ensures refl,
   refl,
 )

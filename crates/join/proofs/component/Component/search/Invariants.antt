@@ -6,7 +6,7 @@ use Rattle.join.specs.Components.{Grown}
 use Rattle.join.proofs.component.Component.search.Given as goal
 
 abbrev pub invariant-loop : goal.invariant-loop
-invariant-loop l = Grown (model l.town) (marked l.allowed) l.self × (l.self.from ≡ l.from)
+invariant-loop l = Grown (model l.graph.town.now) (marked l.graph.set.now) l.self × (l.self.from ≡ l.from)
 
 abbrev pub decreases-loop : goal.decreases-loop
 decreases-loop l = unmarked l.self.marks

@@ -16,9 +16,9 @@ cost_flipped-cost-requires-clause-before c =
     let q = c.args.self.now in
     let p = q.problem in
     let x = c.begin_of-x.result in
-    let h : c.args.k < size (town_in p) = omega (arith, size_model p.streets.town.now, c.requires) in
+    let h : c.args.leg.by < size (town_in p) = omega (arith, size_model p.streets.town.now, c.requires) in
     let e : price_in q x ≡ cost (town_in p) (costs_in p) (marked c.extra_for.result.now) =
-    q.costs x (ap (λ u. marked p.reached.now u) (c.begin_of-x.ensures.is ∙ begin_is (town_in p) c.args.k c.args.back) ∙ end_reached p c.args.k c.args.back h) ∙ ap (cost (town_in p) (costs_in p)) (sym c.extra_for.ensures) in
+    q.costs x (ap (λ u. marked p.reached.now u) (c.begin_of-x.ensures.is ∙ begin_is (town_in p) c.args.leg.by c.args.leg.back) ∙ end_reached p c.args.leg.by c.args.leg.back h) ∙ ap (cost (town_in p) (costs_in p)) (sym c.extra_for.ensures) in
     omega (arith, ints, c.price_for.ensures, e)
 
 pub replace-requires-clause-joins : goal.replace-requires-clause-joins
@@ -27,10 +27,10 @@ replace-requires-clause-joins c =
     let p = q.problem in
     let x = c.begin_of-x.result in
     let y = c.end_of-y.result in
-    let k = c.args.k in
+    let k = c.args.leg.by in
     let eJ = c.flip.ensures ∙ ap (λ J. J ⊞ single k) c.extra_for-then-cost-price_for.ensures in
     subst (Joins (town_in p) (start_in p) y) (sym eJ)
-    (over_join q k c.args.back c.requires x y (c.begin_of-x.ensures.is ∙ begin_is (town_in p) c.args.k c.args.back) (c.end_of-y.ensures.is ∙ into_is (town_in p) c.args.k c.args.back))
+    (over_join q k c.args.leg.back c.requires x y (c.begin_of-x.ensures.is ∙ begin_is (town_in p) c.args.leg.by c.args.leg.back) (c.end_of-y.ensures.is ∙ into_is (town_in p) c.args.leg.by c.args.leg.back))
 
 pub returns : goal.returns
 returns c =
@@ -38,8 +38,8 @@ returns c =
     let p = q.problem in
     let x = c.begin_of-x.result in
     let y = c.end_of-y.result in
-    let k = c.args.k in
+    let k = c.args.leg.by in
     let f = c.cost_flipped-cost.ensures ∙ ap (λ J. pos (cost (town_in p) (costs_in p) (J ⊞ single k))) c.extra_for.ensures in
     let le : price_in q y ≤ cost (town_in p) (costs_in p) (extra_in q x ⊞ single k) = omega (arith, ints, f, c.price_for-2.ensures, c.if-cost-price_for.false) in
-    let n = over_near q k c.args.back c.requires x y (c.begin_of-x.ensures.is ∙ begin_is (town_in p) c.args.k c.args.back) (c.end_of-y.ensures.is ∙ into_is (town_in p) c.args.k c.args.back) le in
+    let n = over_near q k c.args.leg.back c.requires x y (c.begin_of-x.ensures.is ∙ begin_is (town_in p) c.args.leg.by c.args.leg.back) (c.end_of-y.ensures.is ∙ into_is (town_in p) c.args.leg.by c.args.leg.back) le in
     record { problem = refl; less = λ f. absurd (both_ways false refl f); same = λ _. (refl, n) }

@@ -8,7 +8,7 @@ use Rattle.ways.specs.Shown.{to}
 use Rattle.join.specs.Odd.{odd_at, Other}
 use Rattle.join.proofs.Entering.{way_some}
 use Rattle.road.proofs.Ranges.{all_refused}
-use Rattle.join.proofs.start.Subgraph.nearest.Goals as goal
+use Rattle.join.proofs.subgraph.Subgraph.nearest.Goals as goal
 
 -- the first of the pair that was picked, if one was
 first_picked : (P : Option ℕ → Type 0) (o : Option (ℕ × ℕ)) (r : Option ℕ) (D : Type 0) (S : ℕ × ℕ → Type 0) (Q : ℕ × ℕ → ℕ → Type 0) →

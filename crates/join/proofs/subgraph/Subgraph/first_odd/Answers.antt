@@ -4,7 +4,7 @@ use borrow.Author.Tests.{tests}
 use Rattle.road.specs.Model.{model, marked}
 use Rattle.join.specs.Odd.{odd_at}
 use Rattle.road.proofs.Ranges.{first_in}
-use Rattle.join.proofs.start.Subgraph.first_odd.Goals as goal
+use Rattle.join.proofs.subgraph.Subgraph.first_odd.Goals as goal
 
 pub returns : goal.returns
 returns c =

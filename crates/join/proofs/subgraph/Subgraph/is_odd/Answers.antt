@@ -6,7 +6,7 @@ use Rattle.road.specs.Model.{model, marked}
 use Rattle.road.proofs.Models.{size_model}
 use Rattle.join.specs.Joins.{single, out}
 use Rattle.road.proofs.Ranges.{fold_callable, fold_held}
-use Rattle.join.proofs.start.Subgraph.is_odd.Goals as goal
+use Rattle.join.proofs.subgraph.Subgraph.is_odd.Goals as goal
 
 pub fold-requires-clause-callable : goal.fold-requires-clause-callable
 unfolding par

@@ -4,7 +4,7 @@ use Rattle.road.specs.Model.{model, marked}
 use Rattle.road.proofs.Models.{size_model}
 use Rattle.ways.specs.Shown.{to}
 use Rattle.join.proofs.Pairing.{inside_model, odd_other, apart_unreached, way_low, way_fewer}
-use Rattle.join.proofs.start.Subgraph.pair.Goals as goal
+use Rattle.join.proofs.subgraph.Subgraph.pair.Goals as goal
 
 pub unreachable-requires : goal.unreachable-requires
 unreachable-requires c =
