@@ -53,7 +53,8 @@ impl Cut<'_, '_> {
         ensures { marked result ≡ cuts (ground self.now) (side_of self.now) }
     {
         let mut streets = [false; 300];
-        // By number, as every street is asked for. `from_fn` over all 300 places is plainer, and misses the bar of docs/BENCHMARK.md, no more time than C++, in nearly equal ladders.
+        // By number, as every street is asked for. `from_fn` over all 300 places is plainer and takes a ninth more; with it nearly equal ladders
+        // took longer than C++ in one run of six, which misses the bar of docs/BENCHMARK.md.
         let own = &mut streets[..self.town.count];
         for (k, cut) in own.iter_mut().enumerate() {
             *cut = self.has(k);
