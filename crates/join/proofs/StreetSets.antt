@@ -1,18 +1,18 @@
 -- Sets of streets as lists of marks, and sums over them. Assumes nothing.
-use Rattle.std.proofs.Common.{◌≡◌, ℕ, ◌+◌, ◌-◌, ◌*◌, ◌<◌, ◌≤◌, Bool, true, false, List, [], ◌++◌, length, drop, replicate, sym, ap, ◌∙◌, ⊎_elim, arith}
+use Rattle.std.proofs.Common.{◌≡◌, ℕ, ◌+◌, ◌-◌, ◌<◌, ◌≤◌, Bool, true, false, List, [], ◌++◌, length, drop, replicate, sym, ap, ◌∙◌, ⊎_elim, arith}
 use Rattle.std.specs.Array.{IsFromFnResult}
 use mathlib.Core.Path.{fun_ext}
 use denote.Param.Members.{Mut, Called}
 use Rattle.std.proofs.lemmas.List.{get_or_past, get_or-replicate, get_or_append_left, get_or-append_right, get_or-drop, length-replicate}
 use Rattle.std.proofs.lemmas.Bool.{cases_lt, cases_Bool, both_ways}
-use Rattle.road.specs.Counts.{◌⊕◌, when, sum, size, one, two, Set, cut}
+use Rattle.road.specs.Counts.{◌⊕◌, when, size, one, two, Set, cut}
 use Rattle.road.specs.Model.{model, marked}
 use Rattle.road.specs.Roads as roads
 use Rattle.road.specs.declared.town.Town.{Town}
 use Rattle.road.proofs.FromFn.{holds_each}
 use Rattle.road.proofs.Models.{size_model, street_model, street_past}
 use Rattle.road.proofs.Parity.{xor_self}
-use Rattle.road.proofs.Sums.{sum_le, sum_scale, sum_ones}
+use Rattle.road.proofs.Sums.{sum_most}
 use Rattle.join.specs.Joins.{cost, ◌⊞◌, single}
 use Rattle.join.specs.Amounts.{AllEmpty}
 use Rattle.join.proofs.Cost.{cost_drop, cost_more}
@@ -34,12 +34,6 @@ none_past xs ys k h i = rw (get_or_past xs k false h, get_or_past ys k false i)
 pub marked_below : (xs : List Bool) (k : ℕ) → marked xs k ≡ true → k < length xs
 marked_below xs k e = ⊎_elim (λ lt. lt) (λ le. absurd (both_ways (marked xs k) (get_or_past xs k false le) e)) (cases_lt k (length xs))
 
--- a sum of n numbers, none above m
-sum_bound : (n m : ℕ) (f : ℕ → ℕ) → ((k : ℕ) → k < n → f k ≤ m) → sum n f ≤ m * n
-sum_bound n m f h =
-    let s = sum_le n f (λ _. m * 1) (λ k i. omega (arith, h k i)) in
-    omega (arith, sum_scale n m (λ _. 1), ap (λ x. m * x) (sum_ones n))
-
 pub when_le : (b : Bool) (n m : ℕ) → n ≤ m → when b n ≤ m
 when_le b n m h = grind arith
 
@@ -47,7 +41,7 @@ when_le b n m h = grind arith
 pub cost_bound : (t : Town) (l : ℕ → ℕ) (J : Set) → ((k : ℕ) → l k ≤ 4000000000) → cost (model t) l J ≤ 1200000000000
 unfolding cost
 cost_bound t l J most =
-    let s = sum_bound (size (model t)) 4000000000 (λ k. when (J k) (l k)) (λ k i. when_le (J k) (l k) 4000000000 (most k)) in
+    let s = sum_most (size (model t)) 4000000000 (λ k. when (J k) (l k)) (λ k i. when_le (J k) (l k) 4000000000 (most k)) in
     omega (arith, size_model t, t.few)
 
 -- a set with one street put in, or taken out, costs no more than that street more
