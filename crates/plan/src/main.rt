@@ -1,37 +1,33 @@
-// Plans a town: all of its streets together, if each can be come to from the depot.
+// Plans a town: prints a shortest round, its length beside that of all streets, and a sheet that agrees with it.
 #![tactic(auto)]
 
+mod printed;
 #[cfg(test)]
 mod tests;
 
-ghost use Rattle.std.specs.Prelude.{◌≡◌};
-ghost use Rattle.road.specs.Roads.{all_streets};
-ghost use Rattle.road.specs.Refusals.{Answers};
-ghost use Rattle.text.specs.Texts.{town_of, no_plan};
-
-use road::{Refusal, SoundTown};
+use crate::printed::plan_town;
+use round::NoPlan;
 use std::alloc::Global;
 use std::process::ExitCode;
 use text::{Error, TownText, run};
 
-// All streets of a town together, or its refusal.
-fn sum_streets(town: &TownText) -> Result<u64, Refusal>
-    ensures { Answers (no_plan town.now) (λ n. n ≡ all_streets (town_of town.now).streets) result }
-{
-    let sound = SoundTown::new(town.town()?)?;
-    Ok(sound.town.all_streets())
+// Why a program stops that gets no plan. No `From`, since neither type is of this crate.
+fn stopped(e: NoPlan) -> Error {
+    match e {
+        NoPlan::Refused(refusal) => refusal.into(),
+        NoPlan::Memory(e) => e.into(),
+    }
 }
 
 // The answer to a text of a town.
-fn answer(heap: Global, text: &str) -> Result<u64, Error> {
-    let town = TownText::read(heap, text)?;
-    Ok(sum_streets(&town)?)
+fn answer(heap: Global, text: &str) -> Result<String, Error> {
+    plan_town(heap, &TownText::read(heap, text)?).map_err(stopped)
 }
 
 fn main(rt: HostRuntime) -> ExitCode {
     run(&rt, |text| {
-        let all = answer(rt.alloc(), text)?;
-        println!(rt; "all streets {all}")?;
+        let plan = answer(rt.alloc(), text)?;
+        print!(rt; "{plan}")?;
         Ok(())
     })
 }

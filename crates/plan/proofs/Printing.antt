@@ -15,7 +15,7 @@ use Rattle.round.proofs.Answering.{room_suffices}
 use Rattle.round.proofs.Planning.{Done}
 use Rattle.round.proofs.Checking.{fronts}
 use Rattle.round.proofs.Rooming.{legs_back, sheet_back}
-use Rattle.planner.specs.Printed.{Planned, TurnedAway}
+use Rattle.plan.specs.Printed.{Planned, TurnedAway}
 
 -- the text of the fronts of the rooms
 pub printed : (n : ℕ) (xs : List ℕ) (depot all : ℕ) (legs parts legs' parts' text : List ℕ) (p : Plan) (q : PlanNumbers) → Done (plan_refusal n xs depot) (town_in n xs) depot legs parts legs' parts' p →

@@ -8,9 +8,9 @@ use Rattle.road.specs.Refusals.{plan_refusal}
 use Rattle.text.specs.Texts.{town_of, no_plan}
 use Rattle.round.specs.Plans.{Answers}
 use Rattle.round.proofs.Planning.{done}
-use Rattle.planner.specs.Printed.{Planned}
-use Rattle.planner.proofs.Printing.{printed, turned_away}
-use Rattle.planner.proofs.printed.plan_town.Goals as goal
+use Rattle.plan.specs.Printed.{Planned}
+use Rattle.plan.proofs.Printing.{printed, turned_away}
+use Rattle.plan.proofs.printed.plan_town.Goals as goal
 
 pub returns-in_err-checked : goal.returns-in_err-checked
 returns-in_err-checked c =

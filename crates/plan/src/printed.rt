@@ -2,7 +2,7 @@
 ghost use Rattle.std.specs.Prelude.{◌≡◌, ◌+◌, ◌*◌, ◌≤◌, length, take, string_bytes, MatchResult};
 ghost use Rattle.road.specs.Roads.{all_streets};
 ghost use Rattle.text.specs.Texts.{town_of, no_plan};
-ghost use Rattle.planner.specs.Printed.{Planned, TurnedAway};
+ghost use Rattle.plan.specs.Printed.{Planned, TurnedAway};
 
 use round::{NoPlan, Plan, plan_and_check};
 use std::alloc::Global;
