@@ -13,6 +13,7 @@ use Rattle.road.specs.declared.town.Town as town
 use Rattle.road.specs.Limits.{Within}
 use Rattle.road.specs.Model.{model, marked}
 use Rattle.road.specs.Laws.{no_leg}
+use Rattle.road.proofs.Drives.{drive_below}
 use Rattle.road.proofs.Parity.{xor_false, xor_same, xor_assoc, xor_twice, odd_add, odd_mul, odd_bit}
 use Rattle.road.proofs.Sums.{sum_point, par_ext, par_none, par_only, odd_sum}
 use Rattle.road.proofs.Drives.{along, along_sum, drive_cut, times_append, times_first, times_other}
@@ -57,11 +58,6 @@ drive_streets t v w ls d Z =
         xor_same (odd n) (a ⊕ b) (sym s ∙ odd_none (n + bit a + bit b) e)
 
 -- the legs of a drive are of streets of the town
-pub drive_below : (t : Town) {v w : ℕ} {ls : List Leg} → Drive t v ls w → (i : ℕ) → i < length ls → (get_or ls i no_leg).by < size t
-drive_below t (stay v) i h = absurd (omega arith)
-drive_below t (go v w l ls b e d) zero h = b
-drive_below t (go v w l ls b e d) (suc i) h = drive_below t d i (omega arith)
-
 pub drive_low : (t : Town) {v w : ℕ} {ls : List Leg} → size t ≤ 300 → Drive t v ls w → Low ls
 drive_low t few d i h = omega (arith, drive_below t d i h)
 

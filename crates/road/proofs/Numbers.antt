@@ -1,12 +1,13 @@
--- Streets as three numbers each. Assumes nothing.
-use Rattle.std.proofs.Common.{◌≡◌, ℕ, zero, suc, ◌/◌, ◌<◌, ◌≤◌, List, length, get_or, take, drop, sym, refl, map, [], ◌∷◌, ap, ap₂, ◌∙◌, Option, Some, None, MatchOption, unwrap_or, arith}
+-- Streets as three numbers each, and legs as one. Assumes nothing.
+use Rattle.std.proofs.Common.{◌≡◌, ℕ, zero, suc, ◌+◌, ◌*◌, ◌/◌, ◌%◌, Bool, true, false, eqb, ◌<◌, ◌≤◌, List, length, get_or, take, drop, sym, refl, map, [], ◌∷◌, ap, ap₂, ◌∙◌, Option, Some, None, MatchOption, unwrap_or, arith}
 use Rattle.std.proofs.Math.ListN.{get_or-map}
 use Rattle.std.proofs.lemmas.List.{ext_get_or, get_or-take, length-take-le}
 use Rattle.std.specs.Option.{IsSomeAnd, UnwrapsOrElse}
 use Rattle.std.specs.Simd.{first_chunks}
+use Rattle.road.specs.declared.leg.Leg.{Leg}
 use Rattle.road.specs.Roads.{Street, street, no_street}
-use Rattle.road.specs.Counts.{size}
-use Rattle.road.specs.Numbers.{street_of, streets_in, town_in}
+use Rattle.road.specs.Counts.{bit, size}
+use Rattle.road.specs.Numbers.{street_of, streets_in, town_in, leg_in, legs_in, leg_number}
 
 pub length_streets : (n : ℕ) (xs : List ℕ) → length (streets_in n xs) ≡ n
 unfolding streets_in
@@ -53,3 +54,19 @@ pub street_read : (n : ℕ) (xs : List ℕ) (ss : List Street) → take (length 
     (k : ℕ) → k < length xs / 3 → get_or ss k no_street ≡ street (town_in n xs) k
 unfolding street
 street_read n xs ss same k h = sym (get_or-take (length xs / 3) ss k no_street h) ∙ ap (λ z. get_or z k no_street) same
+
+-- legs that were written as numbers are read back
+leg_back : (l : Leg) → leg_in (leg_number l) ≡ l
+leg_back l = ap₂ (λ (k : ℕ) (b : Bool). let m : Leg = record { by = k; back = b } in m) (half l.back) (rest l.back)
+  where
+    half : (b : Bool) → (2 * l.by + bit b) / 2 ≡ l.by
+    half true = omega arith
+    half false = omega arith
+
+    rest : (b : Bool) → eqb ((2 * l.by + bit b) % 2) 1 ≡ b
+    rest true = let e : (2 * l.by + 1) % 2 ≡ 1 = omega arith in ap (λ z. eqb z 1) e
+    rest false = let e : (2 * l.by + 0) % 2 ≡ 0 = omega arith in ap (λ z. eqb z 1) e
+
+pub legs_back : (ls : List Leg) → legs_in (map leg_number ls) ≡ ls
+legs_back [] = refl
+legs_back (l ∷ ls) = ap₂ (λ (l : Leg) (ls : List Leg). l ∷ ls) (leg_back l) (legs_back ls)

@@ -1,6 +1,7 @@
 -- Towns and legs as numbers. Assumes nothing: these are definitions.
-use Rattle.std.specs.Prelude.{ℕ, zero, suc, ◌/◌, ◌%◌, List, [], ◌∷◌, map, length, drop, ◌==◌, slice_index}
+use Rattle.std.specs.Prelude.{ℕ, zero, suc, ◌+◌, ◌*◌, ◌/◌, ◌%◌, List, [], ◌∷◌, map, length, drop, ◌==◌, slice_index}
 use Rattle.road.specs.Roads.{Street, Town, Leg}
+use Rattle.road.specs.Counts.{bit}
 
 -- three numbers a street: its ends and its length
 abbrev pub street_of : List ℕ → Street
@@ -19,3 +20,7 @@ leg_in x = record { by = x / 2; back = (x % 2 == 1) }
 
 abbrev pub legs_in : List ℕ → List Leg
 legs_in xs = map leg_in xs
+
+-- the number of a leg
+abbrev pub leg_number : Leg → ℕ
+leg_number l = 2 * l.by + bit l.back

@@ -12,7 +12,7 @@ use Rattle.road.specs.Numbers.{town_in, legs_in}
 use Rattle.road.specs.Refusals.{town_refusal, reach_refusal, plan_refusal, legs_refusal}
 use Rattle.road.proofs.First.{first_none, unless_none, then_none}
 use Rattle.road.proofs.Parity.{bit_most}
-use Rattle.join.proofs.Pairing.{drive_below}
+use Rattle.road.proofs.Drives.{drive_below}
 use Rattle.sheet.specs.Sheet.{Part, no_part}
 use Rattle.sheet.specs.Numbers.{sheet_in}
 use Rattle.road.specs.declared.refusal.Refusal.{Refusal}
@@ -20,14 +20,17 @@ use Rattle.sheet.specs.declared.word.Word.{Word}
 use Rattle.sheet.specs.declared.word.Word.TheVariants.{NoRound, NoSheet, Shortest, Apart}
 use Rattle.sheet.specs.declared.word.SheetFault.TheVariants.{Part as AtPart, Street as AtStreet}
 use Rattle.sheet.specs.Words.{said, judged, unless_refused, check_refusal, parts_refusal}
+use Rattle.sheet.proofs.Said.{said_word}
 use Rattle.sheet.proofs.Judged.{word_shortest}
 use Rattle.sheet.proofs.Taken.{parts_taken}
 use Rattle.sheet.proofs.Places.{weight_at}
 use Rattle.round.specs.declared.plan.Plan.{Plan}
 use Rattle.round.specs.Plans.{Agreed}
-use Rattle.round.specs.Rooms.{leg_number, sheet_numbers, AllMarked}
+use Rattle.road.specs.Numbers.{leg_number}
+use Rattle.sheet.specs.Numbers.{sheet_numbers, AllMarked}
 use Rattle.round.proofs.Planning.{Done}
-use Rattle.round.proofs.Rooming.{legs_back, sheet_back, parts_back, length_sheet}
+use Rattle.road.proofs.Numbers.{legs_back}
+use Rattle.sheet.proofs.Numbers.{sheet_back, parts_back, length_sheet}
 
 -- all keep a rule
 all_kept : {B : Type 0} (n : ℕ) (p : ℕ → _) (w : ℕ → B) → ((i : ℕ) → i < n → p i ≡ true) → unless_all n p w ≡ None
@@ -63,22 +66,11 @@ parts_let n ps marks few small = (parts_taken n xs).1 ((length ps, long), omega 
         let j : i < length ps = omega (arith, count) in
         omega (arith, weight_at (length ps) n xs i (i * (1 + n)) j refl, ap (λ qs. (get_or qs i no_part).weight) (parts_back n ps marks), small i j)
 
--- an answer that says shortest is that word
-said_shortest : (w : Result Word Refusal) (n : ℕ) → said w ≡ (2, n ∷ []) → w ≡ Ok (Shortest n)
-said_shortest (Ok (Shortest m)) n e = ap (λ ns. Ok (Shortest (get_or ns 0 0))) (ap (λ x. x.1) e)
-said_shortest (Ok (NoRound (AtLeg i))) n e = absurd (omega (arith, ap (λ x. x.0) e))
-said_shortest (Ok (NoRound Home)) n e = absurd (omega (arith, ap (λ x. x.0) e))
-said_shortest (Ok (NoRound (LeftOut k))) n e = absurd (omega (arith, ap (λ x. x.0) e))
-said_shortest (Ok (NoSheet (AtPart i))) n e = absurd (omega (arith, ap (λ x. x.0) e))
-said_shortest (Ok (NoSheet (AtStreet k))) n e = absurd (omega (arith, ap (λ x. x.0) e))
-said_shortest (Ok (Apart a b)) n e = absurd (omega (arith, ap (λ x. x.0) e))
-said_shortest (Err r) n e = absurd (omega (arith, ap (λ x. x.0) e))
-
 -- so it is the checker's word on the numbers of a round and a sheet that agree
 pub checked_word : (n : ℕ) (xs : List ℕ) (depot : ℕ) (ls : List Leg) (ps : List Part) (legs parts : List ℕ) → town_refusal n xs depot ≡ None → Agreed (town_in n xs) depot ls ps →
     AllMarked n ps → legs ≡ map leg_number ls → parts ≡ sheet_numbers ps → (w : Result Word Refusal) →
     said w ≡ unless_refused (check_refusal n xs depot legs parts) (judged (town_in n xs) depot (legs_in legs) (sheet_in n parts)) → w ≡ Ok (Shortest (far (town_in n xs) ls))
-checked_word n xs depot ls ps legs parts taken a marks el ep w e = said_shortest w (far t ls) (e ∙ ap₂ unless_refused none word)
+checked_word n xs depot ls ps legs parts taken a marks el ep w e = said_word (Shortest (far t ls)) w (e ∙ ap₂ unless_refused none word)
   where
     t : Town
     t = town_in n xs

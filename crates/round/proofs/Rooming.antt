@@ -1,69 +1,17 @@
--- Rounds and sheets written as numbers are read back from them. Assumes nothing.
-use Rattle.std.proofs.Common.{◌≡◌, ℕ, zero, suc, ◌+◌, ◌-◌, ◌*◌, ◌/◌, ◌%◌, ◌<◌, ◌≤◌, Bool, true, false, not, cond, eqb, List, [], ◌∷◌, ◌++◌, map, length, get_or, take, drop, set, sym, refl, ap, ◌∙◌, subst, ap₂, suc-mul, mul-div_cancel, arith, length-append}
+-- Rooms that are written to. Assumes nothing.
+use Rattle.std.proofs.Common.{◌≡◌, ℕ, zero, suc, ◌+◌, ◌-◌, ◌<◌, ◌≤◌, Bool, true, false, not, cond, List, [], ◌∷◌, ◌++◌, map, length, get_or, take, drop, set, sym, refl, ap, ◌∙◌, subst, arith}
 use lib.ListN.{length-map}
 use lib.Seq.{append_snoc}
 use mir.Val.{bool_byte}
-use Rattle.std.proofs.lemmas.List.{take_at, drop_at, length-take-le, take_all, set_at, drop_more, map_more, length_push}
+use Rattle.std.proofs.lemmas.List.{length-take-le, take_all, set_at, drop_more, map_more, length_push}
 use Rattle.std.specs.List.{filter}
-use Rattle.road.specs.declared.leg.Leg.{Leg}
 use Rattle.road.specs.Roads.{pick}
 use Rattle.road.specs.Counts.{bit}
 use Rattle.road.specs.Model.{marked}
-use Rattle.road.specs.Numbers.{leg_in, legs_in}
-use Rattle.sheet.specs.Sheet.{Part}
-use Rattle.sheet.specs.Numbers.{marks_in, parts_in, sheet_in}
 use Rattle.join.specs.declared.turn.Stage.{Stage}
 use Rattle.join.specs.Certified.{no_stage, sheet_of}
-use Rattle.round.specs.Rooms.{leg_number, part_numbers, sheet_numbers, part_of, AllMarked, over}
-
-leg_back : (l : Leg) → leg_in (leg_number l) ≡ l
-leg_back l = ap₂ (λ (k : ℕ) (b : Bool). let m : Leg = record { by = k; back = b } in m) (half l.back) (rest l.back)
-  where
-    half : (b : Bool) → (2 * l.by + bit b) / 2 ≡ l.by
-    half true = omega arith
-    half false = omega arith
-
-    rest : (b : Bool) → eqb ((2 * l.by + bit b) % 2) 1 ≡ b
-    rest true = let e : (2 * l.by + 1) % 2 ≡ 1 = omega arith in ap (λ z. eqb z 1) e
-    rest false = let e : (2 * l.by + 0) % 2 ≡ 0 = omega arith in ap (λ z. eqb z 1) e
-
-pub legs_back : (ls : List Leg) → legs_in (map leg_number ls) ≡ ls
-legs_back [] = refl
-legs_back (l ∷ ls) = ap₂ (λ (l : Leg) (ls : List Leg). l ∷ ls) (leg_back l) (legs_back ls)
-
-marks_back : (ms : List Bool) → marks_in (map bit ms) ≡ ms
-marks_back [] = refl
-marks_back (true ∷ ms) = ap (λ (ms : List Bool). true ∷ ms) (marks_back ms)
-marks_back (false ∷ ms) = ap (λ (ms : List Bool). false ∷ ms) (marks_back ms)
-
--- the front and the rest of a sheet's numbers
-module _ (n : ℕ) (p : Part) (e : length p.marks ≡ n) (xs : List ℕ) where
-  marks_front : marks_in (take n (map bit p.marks ++ xs)) ≡ p.marks
-  marks_front = ap marks_in (take_at (map bit p.marks) xs n (length-map p.marks bit ∙ e)) ∙ marks_back p.marks
-
-  marks_rest : drop (1 + n) (part_numbers p ++ xs) ≡ xs
-  marks_rest = drop_at (part_numbers p) xs (1 + n) (omega (arith, length-map p.marks bit))
-
-pub parts_back : (n : ℕ) (ps : List Part) → AllMarked n ps → parts_in (length ps) n (sheet_numbers ps) ≡ ps
-unfolding parts_in
-parts_back n [] h = refl
-parts_back n (p ∷ ps) h =
-    let e : length p.marks ≡ n = h 0 (omega arith) in
-    ap₂ (λ (ms : List Bool) (qs : List Part). let q : Part = record { marks = ms; weight = p.weight } in q ∷ qs)
-    (marks_front n p e (sheet_numbers ps))
-    (ap (parts_in (length ps) n) (marks_rest n p e (sheet_numbers ps)) ∙ parts_back n ps (λ i l. h (suc i) (omega arith)))
-
-pub length_sheet : (n : ℕ) (ps : List Part) → AllMarked n ps → length (sheet_numbers ps) ≡ length ps * (1 + n)
-length_sheet n [] h = omega arith
-length_sheet n (p ∷ ps) h =
-    let e : length p.marks ≡ n = h 0 (omega arith) in
-    let rest = length_sheet n ps (λ i l. h (suc i) (omega arith)) in
-    omega (arith, length-append (part_numbers p) (sheet_numbers ps), length-map p.marks bit, suc-mul (length ps) (1 + n))
-
-pub sheet_back : (n : ℕ) (ps : List Part) → AllMarked n ps → sheet_in n (sheet_numbers ps) ≡ ps
-sheet_back n ps h =
-    let few : length (sheet_numbers ps) / (1 + n) ≡ length ps = ap (λ z. z / (1 + n)) (length_sheet n ps h) ∙ mul-div_cancel (length ps) (omega arith) in
-    ap (λ z. parts_in z n (sheet_numbers ps)) few ∙ parts_back n ps h
+use Rattle.sheet.specs.Numbers.{AllMarked}
+use Rattle.round.specs.Rooms.{part_of, over}
 
 -- where the parts of all classes but the first have a mark for each crossing, so have those of all
 pub marks_more : (n r : ℕ) (ss : List Stage) → 0 < length ss → n ≤ length (get_or ss 0 no_stage).marks → AllMarked n (sheet_of n r (take (length ss - 1) (drop 1 ss))) → AllMarked n (sheet_of n r ss)

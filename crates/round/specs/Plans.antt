@@ -12,7 +12,9 @@ use Rattle.round.specs.declared.plan.Plan.{Plan}
 use Rattle.round.specs.declared.no_plan.NoPlan.{NoPlan}
 use Rattle.round.specs.declared.no_plan.NoPlan.TheVariants.{Refused, Memory}
 use Rattle.pairs.specs.Walks.{Forth, Each}
-use Rattle.round.specs.Rooms.{leg_number, sheet_numbers, AllMarked, over}
+use Rattle.road.specs.Numbers.{leg_number}
+use Rattle.sheet.specs.Numbers.{sheet_numbers, AllMarked}
+use Rattle.round.specs.Rooms.{over}
 
 -- a round and a sheet that agree: so the round is a shortest one, at most two legs a street, and at most 400 parts, none of which weighs more than 10,000,000;
 -- a street whose ends are one crossing is driven from one to two

@@ -3,7 +3,9 @@ ghost use Rattle.std.specs.Prelude.{◌≡◌, ℕ, ◌+◌, ◌*◌, ◌^◌, �
 ghost use Rattle.road.specs.Counts.{bit};
 ghost use Rattle.road.specs.Model.{marked};
 ghost use Rattle.join.specs.Certified.{sheet_of};
-ghost use Rattle.round.specs.Rooms.{leg_number, part_numbers, sheet_numbers, part_of, AllMarked, over};
+ghost use Rattle.road.specs.Numbers.{leg_number};
+ghost use Rattle.sheet.specs.Numbers.{part_numbers, sheet_numbers, AllMarked};
+ghost use Rattle.round.specs.Rooms.{part_of, over};
 
 use join::Stage;
 use road::{Leg, Town};

@@ -11,7 +11,8 @@ use Rattle.join.specs.Laws.{town_of, depot_of, sheet_from}
 use Rattle.join.proofs.Pairing.{drive_low}
 use Rattle.join.proofs.Parts.{least_drives}
 use Rattle.pairs.specs.Pairings.{depot_extra}
-use Rattle.round.specs.Rooms.{sheet_numbers, AllMarked, over}
+use Rattle.sheet.specs.Numbers.{sheet_numbers, AllMarked}
+use Rattle.round.specs.Rooms.{over}
 use Rattle.round.proofs.Planning.{round_far, written_fits}
 use Rattle.round.proofs.write.write_plan.Goals as goal
 
