@@ -1,33 +1,46 @@
-// Plans a town: prints a shortest round, its length beside that of all streets, and a sheet that agrees with it.
+// Plans towns: prints for each a shortest round, its length beside that of all streets, and a sheet that agrees with it.
 #![tactic(auto)]
 
-mod printed;
 #[cfg(test)]
 mod tests;
 
-use crate::printed::plan_town;
-use round::NoPlan;
-use std::alloc::Global;
-use std::process::ExitCode;
-use text::{Error, TownText, run};
+ghost use Rattle.answers.specs.Answers.{Plans};
 
-// Why a program stops that gets no plan. No `From`, since neither type is of this crate.
-fn stopped(e: NoPlan) -> Error {
-    match e {
-        NoPlan::Refused(refusal) => refusal.into(),
-        NoPlan::Memory(e) => e.into(),
+use answers::{NoAnswer, plan_answer};
+use files::{Answer, Program, Reply, run};
+use std::alloc::Global;
+use std::env;
+use std::process::ExitCode;
+
+const PROGRAM: Program = Program {
+    call: "plan [FILE ..]",
+    about: "Plans a round of a snow plough for the town of each FILE, or of standard input if there
+is none or it is -. A town's text has these lines:
+
+    crossings 4                 # crossings are numbered from 0
+    depot 0
+    street 0 1 2                # two ends and a length in metres
+
+For each town this prints a shortest round over all streets from the depot and home,
+its length beside that of all streets together, and parts of the town that show that
+no round is shorter. What is printed behind a town's text is a text for check.
+",
+    options: &[],
+    done: "planned",
+};
+
+struct Planner;
+
+impl Answer for Planner {
+    type Fault = NoAnswer;
+
+    ghost answers = { λ _ _ text reply. Plans text reply };
+
+    fn answer(&self, heap: Global, _options: &[&str], text: &str) -> Result<Reply, NoAnswer> {
+        plan_answer(heap, text)
     }
 }
 
-// The answer to a text of a town.
-fn answer(heap: Global, text: &str) -> Result<String, Error> {
-    plan_town(heap, &TownText::read(heap, text)?).map_err(stopped)
-}
-
 fn main(rt: HostRuntime) -> ExitCode {
-    run(&rt, |text| {
-        let plan = answer(rt.alloc(), text)?;
-        print!(rt; "{plan}")?;
-        Ok(())
-    })
+    run(&rt, env::args(&rt), &PROGRAM, &Planner)
 }

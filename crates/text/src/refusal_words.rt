@@ -25,16 +25,14 @@ pub fn numbered(refusal: Refusal) -> (u64, u64)
     }
 }
 
+// The words are for what a text tells: three numbers a street, and whole parts.
 impl fmt::Display for RefusalWords {
     fn fmt<W: fmt::Write>(&self, f: &mut fmt::Formatter<W>) -> fmt::Result {
         let (number, place) = numbered(self.0);
         write!(f, "refusal {number} at {place}: ")?;
         match self.0 {
             Refusal::Crossings(n) => write!(f, "a town has 1 to 100 crossings, not {n}"),
-            Refusal::Numbers(n) => write!(
-                f,
-                "a town has at most 300 streets of 3 numbers each, not {n} numbers"
-            ),
+            Refusal::Numbers(n) => write!(f, "a town has at most 300 streets, not {}", n / 3),
             Refusal::OutOfRange(k) => write!(
                 f,
                 "street {k} has an end past the crossings or is longer than 100000 metres"
@@ -43,9 +41,8 @@ impl fmt::Display for RefusalWords {
             Refusal::Unreached(k) => write!(f, "street {k} cannot be come to from the depot"),
             Refusal::Room(n) => write!(f, "the room for the answer has to be {n} numbers long"),
             Refusal::NoStreet(i) => write!(f, "leg {i} is of no street"),
-            Refusal::Parts(_) => f.write_str(
-                "there are at most 400 parts, each whole and with a weight of at most 10000000",
-            ),
+            Refusal::Parts(n) if n > 400 => write!(f, "a sheet has at most 400 parts, not {n}"),
+            Refusal::Parts(i) => write!(f, "part {i} weighs more than 10000000"),
         }
     }
 }

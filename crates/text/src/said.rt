@@ -1,4 +1,7 @@
 // The checker's word, as it is printed.
+ghost use Rattle.std.specs.Prelude.{Some};
+ghost use Rattle.text.specs.Said.{said_text};
+
 use road::Fault;
 use sheet::{SheetFault, Word};
 use std::fmt;
@@ -8,6 +11,8 @@ use std::fmt;
 pub struct Said(pub Word);
 
 impl fmt::Display for Said {
+    ghost output = { λ s. Some (said_text s.0) };
+
     fn fmt<W: fmt::Write>(&self, f: &mut fmt::Formatter<W>) -> fmt::Result {
         match self.0 {
             Word::Shortest(length) => write!(f, "shortest {length}"),

@@ -2,12 +2,11 @@
 ghost use Rattle.std.specs.Prelude.{◌≡◌};
 ghost use Rattle.road.specs.Refusals.{Answers};
 ghost use Rattle.road.specs.Model.{model};
-ghost use Rattle.sheet.specs.Words.{said};
-ghost use Rattle.text.specs.Texts.{town_of, no_town, word_of};
+ghost use Rattle.text.specs.Format.{told_town, told_round, town_numbers, round_numbers, Tells};
+ghost use Rattle.text.specs.Texts.{town_of, no_town, no_check, word_on};
 
-use crate::Error;
-use crate::lines::{Lines, RoundLines, TownLines};
-use crate::part_line::parts_as_numbers;
+use crate::TextError;
+use crate::lines::Lines;
 use road::{Refusal, Town};
 use sheet::{Word, check_round};
 use std::alloc::Global;
@@ -28,15 +27,15 @@ pub struct RoundText {
 
 impl TownText {
     // Reads a town, and nothing else.
-    pub fn read(heap: Global, text: &str) -> Result<TownText, Error> {
-        let mut lines = TownLines::new(heap);
-        lines.read(heap, text)?;
-        lines.town()
+    pub fn read(heap: Global, text: &str) -> Result<TownText, TextError>
+        ensures { Tells town_numbers (told_town text.now) result }
+    {
+        Lines::read(heap, true, text)?.town()
     }
 
     // The town of these numbers, or its refusal.
     pub fn town(&self) -> Result<Town, Refusal>
-        ensures { Answers (no_town self.now) (λ t. (model t ≡ town_of self.now) × (t.depot ≡ self.now.depot)) result }
+        ensures { Answers (no_town (town_numbers self.now)) (λ t. (model t ≡ town_of (town_numbers self.now)) × (t.depot ≡ self.now.depot)) result }
     {
         Town::take(self.crossings, self.streets.as_slice(), self.depot)
     }
@@ -44,18 +43,15 @@ impl TownText {
 
 impl RoundText {
     // Reads a town, a round in it and a sheet.
-    pub fn read(heap: Global, text: &str) -> Result<RoundText, Error> {
-        let mut lines = RoundLines::new(heap);
-        lines.read(heap, text)?;
-        let town = lines.town.town()?;
-        let legs = lines.round.ok_or(Error::NoRound)?;
-        let parts = parts_as_numbers(heap, lines.parts.as_slice(), town.crossings)?;
-        Ok(RoundText { town, legs, parts })
+    pub fn read(heap: Global, text: &str) -> Result<RoundText, TextError>
+        ensures { Tells round_numbers (told_round text.now) result }
+    {
+        Lines::read(heap, false, text)?.round(heap)
     }
 
     // The checker's word on them, or a refusal.
     pub fn word(&self) -> Result<Word, Refusal>
-        ensures { said result ≡ word_of self.now }
+        ensures { Answers (no_check (round_numbers self.now)) (λ w. w ≡ word_on (round_numbers self.now)) result }
     {
         check_round(
             self.town.crossings,

@@ -1,0 +1,4 @@
+-- The lemmas of the proofs.
+mod Planned
+mod Checked
+mod Short

@@ -1,0 +1,4 @@
+-- The definitions that the contracts cite.
+pub mod Answers
+pub mod Planned
+pub mod Stopped

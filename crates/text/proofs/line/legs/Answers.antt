@@ -1,0 +1,9 @@
+-- One more word is read, and is no longer left.
+use Rattle.std.proofs.Common.{sym, ◌∙◌, rules}
+use Rattle.text.specs.Words.{leg_in}
+use Rattle.text.proofs.Each.{one_read}
+use Rattle.text.proofs.line.legs.Goals as goal
+
+pub loop-word-preserved : goal.loop-word-preserved
+loop-word-preserved c =
+    one_read leg_in c.loop-word.legs.items c.push.new.self.items c.args.words.now c.loop-word.word-index _ c.in_ok-ok_or.field-0 _ c.loop-word.invariant (search rules) (sym c.leg.ensures ∙ c.in_ok-ok_or.ensures.ok_part) c.in_ok-push.ensures.items

@@ -1,0 +1,4 @@
+-- The lemmas of the proofs.
+mod Parts
+mod Sums
+mod Ticked

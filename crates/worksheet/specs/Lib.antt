@@ -1,0 +1,4 @@
+-- The definitions that the contracts cite.
+pub mod Laws
+pub mod Model
+pub mod Worksheet
