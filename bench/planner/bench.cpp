@@ -1,67 +1,19 @@
 // Towns of 100 crossings: least extra drives beside the same method in C++, whole plans beside least extra drives alone, and the deepest tour.
-#include <sys/resource.h>
-#include <time.h>
 #include <algorithm>
-#include <array>
 #include <cstdint>
 #include <cstdio>
 #include <optional>
 #include <vector>
+#include "planner.hpp"
 #include "search.hpp"
 #include "small_stack.hpp"
+#include "times.hpp"
 #include "tour.hpp"
 #include "town.hpp"
-
-// The depot's price in half metres, how many passes and stages it took, and how many stages show that it is least.
-struct Effort {
-    int64_t price;
-    uint64_t passes, turns, stages;
-};
-
-// How many legs and parts a plan has, and the length of its round in metres.
-struct Planned {
-    uint64_t legs, parts, length;
-};
-
-extern "C" bool is_sound(uint64_t crossings, const uint64_t *numbers, size_t count, uint64_t depot);
-extern "C" Effort least_drives(uint64_t crossings, const uint64_t *numbers, size_t count, uint64_t depot);
-extern "C" Planned plan_town(uint64_t crossings, const uint64_t *numbers, size_t count, uint64_t depot, uint64_t *legs, size_t leg_room,
-                             uint64_t *parts, size_t part_room);
 
 namespace {
 
 constexpr uint64_t towns = 20;
-constexpr int runs = 5;
-
-std::vector<uint64_t> numbers_of(const Town &town) {
-    std::vector<uint64_t> numbers;
-    for (const Street &street : town.streets) {
-        numbers.push_back(street.one);
-        numbers.push_back(street.two);
-        numbers.push_back(street.length);
-    }
-    return numbers;
-}
-
-// What comes before the least extra drives: the town is taken, and checked for streets that cannot be come to.
-bool check(const Town &town) {
-    const std::vector<uint64_t> numbers = numbers_of(town);
-    return is_sound(town.crossings, numbers.data(), numbers.size(), town.depot);
-}
-
-Effort in_rattle(const Town &town) {
-    const std::vector<uint64_t> numbers = numbers_of(town);
-    return least_drives(town.crossings, numbers.data(), numbers.size(), town.depot);
-}
-
-// Rooms for any plan: a street is driven at most twice, and a sheet has at most 400 parts.
-std::array<uint64_t, 600> legs;
-std::array<uint64_t, 400 * 101> parts;
-
-Planned plan(const Town &town) {
-    const std::vector<uint64_t> numbers = numbers_of(town);
-    return plan_town(town.crossings, numbers.data(), numbers.size(), town.depot, legs.data(), legs.size(), parts.data(), parts.size());
-}
 
 Effort in_cpp(const Town &town) {
     Search search(town);
@@ -73,36 +25,6 @@ bool is_certified(const Town &town) {
     Search search(town);
     search.run();
     return search.is_certified();
-}
-
-// Processor time, so that other work on the machine does not count.
-double milliseconds() {
-    timespec now;
-    clock_gettime(CLOCK_PROCESS_CPUTIME_ID, &now);
-    return 1e3 * now.tv_sec + 1e-6 * now.tv_nsec;
-}
-
-double median(std::vector<double> xs) {
-    std::sort(xs.begin(), xs.end());
-    return (xs[(xs.size() - 1) / 2] + xs[xs.size() / 2]) / 2;
-}
-
-double worst(const std::vector<double> &xs) { return *std::max_element(xs.begin(), xs.end()); }
-
-double mean(const std::vector<double> &xs) {
-    double sum = 0;
-    for (double x : xs) sum += x;
-    return sum / xs.size();
-}
-
-template <class Work> double median_time(Work work) {
-    std::vector<double> took;
-    for (int i = 0; i < runs; i++) {
-        double begin = milliseconds();
-        work();
-        took.push_back(milliseconds() - begin);
-    }
-    return median(took);
 }
 
 // What the towns of a kind took.
@@ -207,13 +129,6 @@ bool plan_deepest() {
     std::printf("deepest tour, %zu streets: went through, %d calls in one another, %zu KiB of a stack of %zu KiB\n", town.streets.size(), tour.depth,
                 (taken + 1023) / 1024, stack_size / 1024);
     return true;
-}
-
-// The most memory that the process took so far, in megabytes.
-double peak_memory() {
-    rusage used{};
-    getrusage(RUSAGE_SELF, &used);
-    return used.ru_maxrss / 1024.0;
 }
 
 }  // namespace

@@ -34,9 +34,9 @@ class TownMaker {
   public:
     explicit TownMaker(uint64_t seed) : numbers(seed) {}
 
-    // A town of 100 crossings in one piece.
-    Town make(const Kind &kind, size_t streets) {
-        town = {100, below(100), {}};
+    // A town in one piece, of 100 crossings or of another even number of them.
+    Town make(const Kind &kind, size_t streets, int crossings = 100) {
+        town = {crossings, below(crossings), {}};
         switch (kind.plan) {
             case Kind::random: lay_tree(); break;
             case Kind::grid: lay_grid(); break;
@@ -55,34 +55,45 @@ class TownMaker {
     void lay(int one, int two) { town.streets.push_back({one, two, 0}); }
 
     void lay_tree() {
-        for (int i = 1; i < 100; i++) lay(i, below(i));
+        for (int i = 1; i < town.crossings; i++) lay(i, below(i));
     }
 
-    // 10 rows of 10 crossings.
+    // How many crossings a row of a grid has: 10 of 100, and as near to a square as can be.
+    int row() const {
+        int wide = 1;
+        for (int i = 2; i * i <= town.crossings; i++)
+            if (town.crossings % i == 0) wide = i;
+        return wide;
+    }
+
+    // Rows of crossings.
     void lay_grid() {
-        for (int i = 0; i < 100; i++) {
-            if (i % 10 < 9) lay(i, i + 1);
-            if (i / 10 < 9) lay(i, i + 10);
+        const int wide = row();
+        for (int i = 0; i < town.crossings; i++) {
+            if (i % wide < wide - 1) lay(i, i + 1);
+            if (i + wide < town.crossings) lay(i, i + wide);
         }
     }
 
-    // 50 rungs between two sides.
+    // Rungs between two sides.
     void lay_ladder() {
-        for (int i = 0; i < 50; i++) {
+        const int rungs = town.crossings / 2;
+        for (int i = 0; i < rungs; i++) {
             lay(2 * i, 2 * i + 1);
-            if (i < 49) lay(2 * i, 2 * i + 2);
-            if (i < 49) lay(2 * i + 1, 2 * i + 3);
+            if (i < rungs - 1) lay(2 * i, 2 * i + 2);
+            if (i < rungs - 1) lay(2 * i + 1, 2 * i + 3);
         }
     }
 
     // A diagonal of a grid; elsewhere a street between any two crossings.
     void lay_one_more(Kind::Plan plan) {
         if (plan == Kind::grid) {
-            int corner = 10 * below(9) + below(9);
-            lay(corner, corner + 11);
+            const int wide = row(), rows = town.crossings / wide;
+            int corner = wide * below(rows - 1) + below(wide - 1);
+            lay(corner, corner + wide + 1);
         } else {
-            int one = below(100);
-            lay(one, below(100));
+            int one = below(town.crossings);
+            lay(one, below(town.crossings));
         }
     }
 };

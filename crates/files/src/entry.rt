@@ -4,10 +4,10 @@ ghost use Rattle.std.specs.Vec.Iter.{into_iter_items};
 ghost use Rattle.std.specs.Process.{exit_status};
 ghost use Rattle.files.specs.Answered.{AllAnswered};
 
+use crate::answerer::Answerer;
 use crate::arguments::Arguments;
 use crate::one_line::OneLine;
 use crate::program::Help;
-use crate::session::Session;
 use crate::{Answer, Program, Texts};
 use std::alloc::{AllocError, Global};
 use std::env::Args;
@@ -38,12 +38,12 @@ fn answer_named<R: Texts + Print + Eprint + AllocGlobal, A: Answer>(
     let arguments = Arguments::read(rt.alloc(), args)?;
     match arguments.unknown(program.options) {
         None => {
-            let session = Session {
+            let answerer = Answerer {
                 rt,
                 answer,
                 options: arguments.options.as_slice(),
             };
-            Ok(session.answer_all(program, arguments.names.as_slice())?)
+            Ok(answerer.answer_all(program, arguments.names.as_slice())?)
         }
         Some("--help") => {
             rt.print(Help(program))?;

@@ -2,12 +2,12 @@
 #![tactic(auto)]
 
 mod answer;
+mod answerer;
 mod arguments;
 mod entry;
 mod laws;
 mod one_line;
 mod program;
-mod session;
 mod source;
 mod tally;
 #[cfg(test)]

@@ -3,8 +3,8 @@ use Rattle.std.proofs.Common.{ℕ, List, [], map, ap, subst, ◌∙◌, arith, r
 use Rattle.std.proofs.lemmas.List.Elements.{All-map}
 use Rattle.files.specs.Answered.{Answered}
 use Rattle.files.proofs.Served.{one_more, one_fewer, all_of}
-use Rattle.files.proofs.session.Session.answer_each.Goals as goal
-use Rattle.files.proofs.session.Session.answer_each.Goals.{in-Some, in_default}
+use Rattle.files.proofs.answerer.Answerer.answer_each.Goals as goal
+use Rattle.files.proofs.answerer.Answerer.answer_each.Goals.{in-Some, in_default}
 
 pub loop-name-preserved : goal.loop-name-preserved
 loop-name-preserved g c =

@@ -44,13 +44,13 @@ impl fmt::Display for Headed<'_> {
 
 // What a program answers with.
 #[derive(Clone, Copy)]
-pub(crate) struct Session<'a, R, A> {
+pub(crate) struct Answerer<'a, R, A> {
     pub rt: &'a R,
     pub answer: &'a A,
     pub options: &'a [&'a str],
 }
 
-impl<R: Texts + Print + Eprint + AllocGlobal, A: Answer> Session<'_, R, A> {
+impl<R: Texts + Print + Eprint + AllocGlobal, A: Answer> Answerer<'_, R, A> {
     fn reply(&self, source: Source) -> Result<Reply, Fault<A::Fault>>
         ensures { IfOk result (λ r. (text : List ℕ) × R.holds self.now.rt.now (name_of source.entry) text × A.answers self.now.answer.now (map (λ o. o.now) self.now.options.now) text r) }
     {

@@ -1,7 +1,7 @@
 -- Where as many are answered as were read, all are.
 use Rattle.std.proofs.Common.{◌≡◌, ◌≤◌, map, take, All}
 use Rattle.files.specs.Answered.{Answered}
-use Rattle.files.proofs.session.Session.answer_each.Given as goal
+use Rattle.files.proofs.answerer.Answerer.answer_each.Given as goal
 
 abbrev pub invariant-loop-name : goal.invariant-loop-name
 invariant-loop-name g l = record {
