@@ -1,9 +1,6 @@
 // Checks rounds and sheets: prints the checker's word on each, and a worksheet above it where one is asked for.
 #![tactic(auto)]
 
-#[cfg(test)]
-mod tests;
-
 ghost use Rattle.checker.specs.Checked.{Answers};
 
 use answers::{NoAnswer, check_answer, worksheet_answer};

@@ -10,8 +10,6 @@ mod one_line;
 mod program;
 mod source;
 mod tally;
-#[cfg(test)]
-mod tests;
 
 pub use answer::{Answer, Lengths, Reply};
 pub use entry::run;

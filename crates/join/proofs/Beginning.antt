@@ -17,8 +17,9 @@ use Rattle.join.specs.Problems.{town_in, costs_in, start_in, reached_in}
 use Rattle.join.specs.Prices.{extra_in, price_in, AllNear}
 use Rattle.join.specs.Classes.{Classed, Alone}
 use Rattle.join.specs.Potentials.{Potential}
-use Rattle.join.specs.Turns.{lengths_at, potential_at, Pass}
-use Rattle.join.specs.Passes.{lengths_after, potentials_after, After, Run}
+use Rattle.join.specs.Turns.{lengths_at, potential_at, Pass, Settled}
+use Rattle.join.specs.Progress.{Progress}
+use Rattle.join.specs.Passes.{lengths_after, potentials_after, After, Run, Listed}
 use Rattle.join.proofs.Joins.{odd_none, out_none, join_none}
 use Rattle.join.proofs.Cost.{cost_odd}
 use Rattle.join.proofs.Progress.{progress_start, labels_start}
@@ -60,21 +61,28 @@ unfolding lengths_after potentials_after
 begin_after q v el eg = record { streets = el; crossings = eg }
 
 -- classes of one crossing are classes
-alone_classed : (t : roads.Town) (l : ℕ → ℕ) (c : Classes) → Alone c → Classed t l c
+pub alone_classed : (t : roads.Town) (l : ℕ → ℕ) (c : Classes) → Alone c → Classed t l c
 alone_classed t l c a = record {
   leads = λ v h. rw (a.ways v, a.labels v h) (join_none t v);
   zero = λ v h. subst (Zero t l) (sym (a.ways v)) (λ k _ e. absurd (both_ways false refl e));
 }
 
-pub begin_run : (q : Prices) (v : Level) (c : Classes) → Pass q v → After q [] 0 v → Alone c → Run q c [] v
-begin_run q v c s f a = record {
-  pass = s;
-  classed = alone_classed (town_in q.problem) (lengths_at v) c a;
+-- they are a beginning
+pub alone_progress : (q : Prices) (v : Level) (c : Classes) → Alone c → Progress (town_in q.problem) (lengths_at v) (potential_at v) c 0
+alone_progress q v c a = progress_start (town_in q.problem) (lengths_at v) (potential_at v) c (labels_start c a.labels)
+
+-- so are merged ones
+pub begin_run : (q : Prices) (v : Level) (c : Classes) → Settled q v c → After q [] 0 v → Progress (town_in q.problem) (lengths_at v) (potential_at v) c 0 → Run q c [] v
+begin_run q v c s f p = record {
+  settled = s;
   staged = λ i h. absurd (omega arith);
   cuts = λ i h. absurd (omega arith);
   after = f;
-  progress = progress_start (town_in q.problem) (lengths_at v) (potential_at v) c (labels_start c a.labels);
+  progress = p;
 }
+
+pub listed_none : (t : roads.Town) → Listed t [] []
+listed_none t = record { long = refl; border = λ i ls h. absurd (omega arith) }
 
 -- the prices, as the code lists them
 pub all_are : (q : Prices) (zs : List ℤ) → length zs ≡ 100 → ((u : ℕ) → u < 100 → get_or zs u (pos 0) ≡ pos (price_in q u)) → number zs ≡ price_in q

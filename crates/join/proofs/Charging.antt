@@ -1,14 +1,17 @@
 -- What is left after a charge. Assumes nothing.
-use Rattle.std.proofs.Common.{◌≡◌, ℕ, ◌<◌, ◌≤◌, true, false, ap, arith}
+use Rattle.std.proofs.Common.{◌≡◌, ℕ, ◌<◌, ◌≤◌, true, false, List, sym, ap, ◌∙◌, arith}
+use Rattle.road.specs.declared.leg.Leg.{Leg}
 use Rattle.road.specs.Roads.{Town}
-use Rattle.road.specs.Counts.{size, Set, cut}
+use Rattle.road.specs.Counts.{when, size, one, two, Set, cut}
 use Rattle.join.specs.declared.level.Level.{Level}
 use Rattle.join.specs.declared.partition.Classes.{Classes}
 use Rattle.join.specs.declared.prices.Prices.{Prices}
 use Rattle.join.specs.Joins.{shorter}
 use Rattle.join.specs.Problems.{town_in, start_in, reached_in}
 use Rattle.join.specs.Prices.{extra_in}
-use Rattle.join.specs.Classes.{Classed}
+use Rattle.join.specs.Borders.{Bordered}
+use Rattle.join.specs.Odd.{streets_of}
+use Rattle.join.specs.Classes.{label_in, Classed, Merged}
 use Rattle.join.specs.Potentials.{lower}
 use Rattle.join.specs.Turns.{lengths_at, potential_at, Pass, Charged}
 use Rattle.join.proofs.Stages as stages
@@ -35,3 +38,8 @@ classed_on t l l' c Z e p el = record {
   leads = p.leads;
   zero = λ v h k i own. omega (arith, p.zero v h k i own, ap (λ f. f k) el);
 }
+
+-- where crossings are merged along all streets of no length before the charge, they are along all such streets but those of the border
+pub merged_on : (t : Town) (l l' : ℕ → ℕ) (c : Classes) (Z : Set) (e n : ℕ) (ls : List Leg) → Merged t l c n → Bordered t Z ls → l' ≡ shorter t Z e l →
+    (k : ℕ) → k < n → l' k ≡ 0 → streets_of ls k ≡ false → label_in c (one t k) ≡ label_in c (two t k)
+merged_on t l l' c Z e n ls m b el k h z u = m k h (omega (arith, ap (λ f. f k) el, z, ap (λ x. when x e) (sym (b.all k) ∙ u)))

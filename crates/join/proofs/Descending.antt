@@ -1,6 +1,8 @@
 -- The way down over the stages of a pass. Assumes nothing.
-use Rattle.std.proofs.Common.{◌≡◌, ℕ, zero, suc, ◌+◌, ◌<◌, ◌≤◌, true, false, not, ◌&&◌, List, length, get_or, sym, refl, ap, ◌∙◌, subst, ap₂, arith}
+use Rattle.std.proofs.Common.{◌≡◌, ℕ, zero, suc, ◌+◌, ◌<◌, ◌≤◌, true, false, not, ◌&&◌, List, length, get_or, vec_items, sym, refl, ap, ◌∙◌, subst, ap₂, arith}
 use Rattle.std.proofs.lemmas.List.{get_or_read}
+use Rattle.std.specs.Global.{Vec}
+use Rattle.road.specs.declared.leg.Leg.{Leg}
 use Rattle.road.specs.Roads as roads
 use Rattle.road.specs.Counts.{when, size, Set, cut}
 use Rattle.road.specs.Model.{marked}
@@ -11,6 +13,7 @@ use Rattle.join.specs.declared.prices.Prices.{Prices}
 use Rattle.join.specs.declared.turn.Stage.{Stage}
 use Rattle.join.specs.Joins.{shorter}
 use Rattle.join.specs.Amounts.{amount}
+use Rattle.join.specs.Borders.{Bordered}
 use Rattle.join.specs.Problems.{town_in, costs_in, start_in, reached_in}
 use Rattle.join.specs.Prices.{price_in}
 use Rattle.join.specs.Potentials.{Cheaper, lower}
@@ -97,6 +100,12 @@ module _ (a : CutPacking) (i : ℕ) (h : i < length a.stages.now) (v : Level) (a
 
   back_potentials : higher In (marked s.marks) (amount s.charge) (potential_at v) ≡ g
   back_potentials = ap (higher In (marked s.marks) (amount s.charge)) potentials_last ∙ higher_lower In (marked s.marks) (amount s.charge) g staged.crossings
+
+  -- its border is listed
+  pub undo_listed : (ls : Vec Leg) → ls ≡ get_or a.borders.now i ls → (xs : List Leg) → xs ≡ vec_items (get_or a.borders.now i ls) → Bordered (town_in a.prices.now.problem) (marked (get_or a.stages.now i x).marks) xs
+  undo_listed ls found xs e =
+      subst (λ (z : Stage). Bordered t (marked z.marks) xs) here
+      (subst (Bordered t (class_at ss i)) (sym (e ∙ ap vec_items (sym found))) (a.listed.border i ls h found))
 
   -- it fits
   pub back_fits : (k : ℕ) → k < size (town_in a.prices.now.problem) → cut (town_in a.prices.now.problem) (marked (get_or a.stages.now i x).marks) k ≡ true →

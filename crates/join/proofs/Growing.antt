@@ -9,7 +9,7 @@ use Rattle.road.proofs.Parity.{xor_true}
 use Rattle.join.specs.declared.component.Component.{Component}
 use Rattle.join.specs.Joins.{◌⊞◌, single, Joins, at}
 use Rattle.join.specs.Exchange.{Exit}
-use Rattle.join.specs.Amounts.{row}
+use Rattle.join.specs.Amounts.{row, AllEmpty}
 use Rattle.join.specs.Weights.{inner, outer}
 use Rattle.join.specs.Components.{crossings_in, path_in, Grown}
 use Rattle.join.proofs.Joins.{join_on, join_none, side_join}
@@ -54,20 +54,26 @@ module _ (t : Town) (A : Set) (c : Component) (p : Grown t A c) (k : ℕ) (h : k
       by_here : (j : ℕ) → path_in c x j ⊕ eqb j k ≡ true → A j ≡ true
       by_here j o = ⊎_elim (p.by x j exit.inside) (λ q. ap A (eqb-true j k q) ∙ own) (xor_true (path_in c x j) (eqb j k) o)
 
--- at first only the start is come to
-pub grown_start : (t : Town) (A : Set) (c d : Component) (J : List Bool) (s : ℕ) → s < 100 → J ≡ replicate 300 false →
-    d.from ≡ s → d.marks ≡ set (replicate 100 false) s true → vec_items d.path ≡ set (vec_items c.path) s J → Grown t A d
-grown_start t A c d J s h eJ ef em ep = record {
+-- a start to which leads the empty way
+grown_from : (t : Town) (A : Set) (d : Component) (s : ℕ) → s < 100 → d.from ≡ s → d.marks ≡ set (replicate 100 false) s true → path_in d s ≡ (λ _. false) → Grown t A d
+grown_from t A d s h ef em row_none = record {
   base = ap (crossings_in d) ef ∙ ap (λ xs. marked xs s) em ∙ get_or-set_same (replicate 100 false) s true false (omega (arith, length-replicate 100 false));
   leads = λ v m. subst (λ u. Joins t (at u) v (path_in d v)) (sym ef) (leads_at v (is v m));
   by = λ v k m o. absurd (both_ways (path_in d v k) (ap (λ u. path_in d u k) (is v m) ∙ ap (λ f. f k) row_none) o);
 }
   where
-    row_none : path_in d s ≡ (λ _. false)
-    row_none = ap (λ rows. row rows s) ep ∙ ap marked (get_or-set_same (vec_items c.path) s J [] (omega (arith, c.rows)) ∙ eJ) ∙ marked_none 300
-
     is : (v : ℕ) → crossings_in d v ≡ true → v ≡ s
     is v m = ⊎_elim (λ e. e) (λ ne. absurd (both_ways (crossings_in d v) (ap (λ xs. marked xs v) em ∙ get_or-set_other (replicate 100 false) s v true false ne ∙ ap (λ Z. Z v) (marked_none 100)) m)) (cases_eq v s)
 
     leads_at : (v : ℕ) → v ≡ s → Joins t (at s) v (path_in d v)
     leads_at v q = rw (q, row_none) (join_none t s)
+
+-- at first only the start is come to
+pub grown_start : (t : Town) (A : Set) (c d : Component) (J : List Bool) (s : ℕ) → s < 100 → J ≡ replicate 300 false →
+    d.from ≡ s → d.marks ≡ set (replicate 100 false) s true → vec_items d.path ≡ set (vec_items c.path) s J → Grown t A d
+grown_start t A c d J s h eJ ef em ep =
+    grown_from t A d s h ef em (ap (λ rows. row rows s) ep ∙ ap marked (get_or-set_same (vec_items c.path) s J [] (omega (arith, c.rows)) ∙ eJ) ∙ marked_none 300)
+
+-- so where no crossing has a way yet
+pub grown_alone : (t : Town) (A : Set) (d : Component) (s : ℕ) → s < 100 → d.from ≡ s → d.marks ≡ set (replicate 100 false) s true → AllEmpty (vec_items d.path) 100 → Grown t A d
+grown_alone t A d s h ef em e = grown_from t A d s h ef em (e.none s)

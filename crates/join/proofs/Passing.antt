@@ -1,7 +1,9 @@
 -- Turn by turn: what a pass keeps. Assumes nothing.
-use Rattle.std.proofs.Common.{◌≡◌, ℕ, zero, suc, ◌+◌, ◌<◌, ◌≤◌, true, eqb, ltb, List, [], ◌∷◌, ◌++◌, length, get_or, sym, refl, ap, ◌∙◌, subst, ap₂, add-zero, add-one, arith}
+use Rattle.std.proofs.Common.{◌≡◌, ℕ, zero, suc, ◌+◌, ◌<◌, ◌≤◌, true, eqb, ltb, List, [], ◌∷◌, ◌++◌, length, get_or, sym, refl, ap, ◌∙◌, subst, ap₂, vec_items, add-zero, add-one, ⊎_elim, arith}
 use Rattle.std.proofs.lemmas.List.{get_or_append_left, get_or_push, length_push}
-use Rattle.std.proofs.lemmas.Bool.{and_parts, ltb-true, eqb-true}
+use Rattle.std.proofs.lemmas.Bool.{and_parts, cases_eq, ltb-true, eqb-true}
+use Rattle.std.specs.Global.{Vec}
+use Rattle.road.specs.declared.leg.Leg.{Leg}
 use Rattle.road.specs.Roads as roads
 use Rattle.road.specs.Counts.{size, Set, cut}
 use Rattle.road.specs.Model.{marked}
@@ -9,17 +11,20 @@ use Rattle.join.specs.declared.level.Level.{Level}
 use Rattle.join.specs.declared.partition.Classes.{Classes}
 use Rattle.join.specs.declared.prices.Prices.{Prices}
 use Rattle.join.specs.declared.turn.Stage.{Stage}
+use Rattle.join.specs.declared.turn.Turn.{Turn}
+use Rattle.join.specs.declared.turn.Turn.TheVariants.{Better, Charge, Done}
 use Rattle.join.specs.Joins.{Joins, at, Zero, shorter}
 use Rattle.join.specs.Amounts.{amount}
 use Rattle.join.specs.Problems.{town_in, costs_in, start_in, reached_in}
 use Rattle.join.specs.Prices.{extra_in, price_in}
+use Rattle.join.specs.Borders.{Bordered}
 use Rattle.join.specs.Classes.{label_in, class_in, Classed, Kept}
 use Rattle.join.specs.Potentials.{lower}
-use Rattle.join.specs.Turns.{lengths_at, potential_at, Pass, Charged}
+use Rattle.join.specs.Turns.{lengths_at, potential_at, Pass, Settled, Charged, FindsAt, Named, Taken}
 use Rattle.join.specs.Certified.{no_stage}
 use Rattle.join.specs.Progress.{Progress}
-use Rattle.join.specs.Passes.{lengths_after, potentials_after, After, Staged, AllStaged, Run}
-use Rattle.join.proofs.Uniting.{class_way}
+use Rattle.join.specs.Passes.{lengths_after, potentials_after, After, Staged, AllStaged, Run, Listed}
+use Rattle.join.proofs.Uniting.{class_way, kept_same}
 use Rattle.join.proofs.Charging.{streets_bear, crossings_bear}
 use Rattle.join.proofs.Descending.{lengths_more, potentials_more, staged_same}
 use Rattle.join.proofs.Writing.{each_push}
@@ -72,13 +77,11 @@ potentials_before In f ss s zero h = refl
 potentials_before In f ss s (suc n) h =
     ap₂ (λ z g. lower In (marked z.marks) (amount z.charge) g) (stage_before ss s n (omega arith)) (potentials_before In f ss s n (omega arith))
 
-module _ (q : Prices) (c c' : Classes) (ss : List Stage) (v v' : Level) (r : Run q c ss v) (kept : Kept c c')
-    (pass : Pass q v') (classed : Classed (town_in q.problem) (lengths_at v') c') where
+module _ (q : Prices) (c c' : Classes) (ss : List Stage) (v v' : Level) (r : Run q c ss v) (kept : Kept c c') (settled : Settled q v' c') where
   -- no class was charged
   pub run_same : lengths_at v' ≡ lengths_at v → potential_at v' ≡ potential_at v → Progress (town_in q.problem) (lengths_at v') (potential_at v') c' (length ss + 0) → Run q c' ss v'
   run_same el eg pr = record {
-    pass = pass;
-    classed = classed;
+    settled = settled;
     staged = λ i h. staged_kept q c c' _ _ (get_or ss i no_stage) kept (r.staged i h);
     cuts = r.cuts;
     after = record { streets = el ∙ r.after.streets; crossings = eg ∙ r.after.crossings };
@@ -92,8 +95,7 @@ module _ (q : Prices) (c c' : Classes) (ss : List Stage) (v v' : Level) (r : Run
       potential_at v' ≡ lower (reached_in q.problem) (marked s.marks) (amount s.charge) (potential_at v) →
       Progress (town_in q.problem) (lengths_at v') (potential_at v') c' (length ss + 1) → Run q c' ss' v'
   run_charge s ss' e new out el eg pr = subst (λ zs. Run q c' zs v') (sym e) (record {
-    pass = pass;
-    classed = classed;
+    settled = settled;
     staged = staged;
     cuts = λ i h. each_push (λ _ z. (k : ℕ) × (k < size (town_in q.problem)) × (cut (town_in q.problem) (marked z.marks) k ≡ true)) ss s no_stage r.cuts out i (omega (arith, long));
     after = after;
@@ -132,3 +134,24 @@ module _ (q : Prices) (c c' : Classes) (ss : List Stage) (v v' : Level) (r : Run
         streets = el ∙ ap₂ (λ z l. shorter (town_in q.problem) (marked z.marks) (amount z.charge) l) (sym here) (sym lengths_here) ∙ sym (lengths_more (town_in q.problem) (costs_in q.problem) (ss ++ s ∷ []) n);
         crossings = eg ∙ ap₂ (λ z g. lower (reached_in q.problem) (marked z.marks) (amount z.charge) g) (sym here) (sym potentials_here) ∙ sym (potentials_more (reached_in q.problem) (price_in q) (ss ++ s ∷ []) n);
       })
+
+-- a border more is listed
+pub listed_push : (t : roads.Town) (ss ss' : List Stage) (bs bs' : List (Vec Leg)) (s : Stage) (b : Vec Leg) → Listed t ss bs → Bordered t (marked s.marks) (vec_items b) →
+    ss' ≡ ss ++ s ∷ [] → bs' ≡ bs ++ b ∷ [] → Listed t ss' bs'
+listed_push t ss ss' bs bs' s b l new es eb = subst (λ zs. Listed t zs bs') (sym es) (subst (Listed t (ss ++ s ∷ [])) (sym eb) (record {
+  long = omega (arith, length_push ss s, length_push bs b, l.long);
+  border = λ i x h is. ⊎_elim
+      (λ e. subst (λ Z. Bordered t Z (vec_items x)) (sym (ap (λ (z : Stage). marked z.marks) (get_or_push ss s no_stage i (sym e))))
+      (subst (λ y. Bordered t (marked s.marks) (vec_items y)) (sym (is ∙ get_or_push bs b x i (omega (arith, l.long)))) new))
+      (λ ne.
+      let lt : i < length ss = omega (arith, length_push ss s) in
+      subst (λ Z. Bordered t Z (vec_items x)) (sym (ap (λ (z : Stage). marked z.marks) (get_or_append_left ss (s ∷ []) no_stage i lt)))
+      (l.border i x lt (is ∙ get_or_append_left bs (b ∷ []) x i (omega (arith, l.long)))))
+      (cases_eq i (length ss));
+}))
+
+-- a turn that charges no class leaves all as it was
+pub taken_same : (q : Prices) (v : Level) (c : Classes) (r : Turn) → Settled q v c → FindsAt q v r → Named (town_in q.problem) c r → ((s : Stage) (ls : Vec Leg) → r ≡ Charge s ls → ⊥) → Taken q v c r v c
+taken_same q v c (Better f) s finds named other = record { settled = s; kept = kept_same c; finds = finds; named = named; progress = λ n x. rw add-zero x; leaves = (refl, refl) }
+taken_same q v c (Charge z ls) s finds named other = absurd (other z ls refl)
+taken_same q v c Done s finds named other = record { settled = s; kept = kept_same c; finds = finds; named = named; progress = λ n x. rw add-zero x; leaves = (refl, refl) }

@@ -1,9 +1,9 @@
 -- Sets of streets as lists of marks, and sums over them. Assumes nothing.
-use Rattle.std.proofs.Common.{◌≡◌, ℕ, ◌+◌, ◌-◌, ◌<◌, ◌≤◌, Bool, true, false, List, [], ◌++◌, length, drop, replicate, sym, ap, ◌∙◌, ⊎_elim, arith}
+use Rattle.std.proofs.Common.{◌≡◌, ℕ, ◌+◌, ◌<◌, ◌≤◌, Bool, true, false, List, [], length, replicate, sym, ap, ◌∙◌, ⊎_elim, arith}
 use Rattle.std.specs.Array.{IsFromFnResult}
 use mathlib.Core.Path.{fun_ext}
 use denote.Param.Members.{Mut, Called}
-use Rattle.std.proofs.lemmas.List.{get_or_past, get_or-replicate, get_or_append_left, get_or-append_right, get_or-drop, length-replicate}
+use Rattle.std.proofs.lemmas.List.{get_or_past, get_or-replicate, length-replicate}
 use Rattle.std.proofs.lemmas.Bool.{cases_lt, cases_Bool, both_ways}
 use Rattle.road.specs.Counts.{◌⊕◌, when, size, one, two, Set, cut}
 use Rattle.road.specs.Model.{model, marked}
@@ -62,12 +62,6 @@ cut_past t Z k h = ap (λ s. Z s.one ⊕ Z s.two) (street_past t k h) ∙ xor_se
 -- no marks are the empty set
 pub marked_none : (n : ℕ) → marked (replicate n false) ≡ (λ _. false)
 marked_none n = fun_ext (λ k. ⊎_elim (get_or-replicate n k false false) (λ ge. get_or_past (replicate n false) k false (omega (arith, length-replicate n false))) (cases_lt k n))
-
--- a set of the first n of m places, written over their front
-pub marked_front : (own : List Bool) (n m : ℕ) (Z : Set) → length own ≡ n → ((j : ℕ) → j < n → marked own j ≡ Z j) → ((j : ℕ) → n ≤ j → Z j ≡ false) → marked (own ++ drop n (replicate m false)) ≡ Z
-marked_front own n m Z long each past = fun_ext (λ j. ⊎_elim
-    (λ lt. get_or_append_left own _ false j (omega arith) ∙ each j lt)
-    (λ le. get_or-append_right own _ n j false long le ∙ get_or-drop n _ (j - n) false ∙ ap (λ Y. Y (n + (j - n))) (marked_none m) ∙ sym (past j le)) (cases_lt j n))
 
 -- rows of no marks
 pub empty_rows : (m n : ℕ) → AllEmpty (replicate m (replicate n false)) m

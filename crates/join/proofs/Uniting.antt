@@ -130,6 +130,10 @@ link_is t l c k x y H Q r h z ex ey hx hy eH eQ =
       subst (Zero t l) (sym q) (zero_xor t l (way_in c x ⊞ single k) (way_in c y) (zero_xor t l (way_in c x) (single k) (r.zero x hx) (zero_single t l k z)) (r.zero y hy)),
     )
 
+-- what stays is kept
+pub kept_same : (c : Classes) → Kept c c
+kept_same c = record { labels = λ u v hu hv e. e; ways = λ u v hu hv e. refl }
+
 -- what is kept twice is kept
 pub kept_on : (c d e : Classes) → Kept c d → Kept d e → Kept c e
 kept_on c d e p q = record {

@@ -1,7 +1,7 @@
 -- What can be come to over the streets of a set, and the ways there. Assumes nothing: these are definitions.
-use Rattle.std.specs.Prelude.{◌≡◌, ℕ, ◌<◌, Bool, true, false, List, vec_items}
+use Rattle.std.specs.Prelude.{◌≡◌, ℕ, ◌<◌, Bool, true, false, List, replicate, vec_items}
 use Rattle.road.specs.Roads.{Town}
-use Rattle.road.specs.Counts.{Set, cut}
+use Rattle.road.specs.Counts.{size, Set, cut}
 use Rattle.road.specs.Model.{marked}
 use Rattle.join.specs.declared.component.Component.{Component}
 use Rattle.join.specs.Joins.{Joins, at}
@@ -23,3 +23,13 @@ pub record Grown (t : Town) (A : Set) (c : Component) : Type 0 where
 -- no street of A, of the first n, leads on
 abbrev pub Closed : Town → Set → List Bool → ℕ → Type 0
 Closed t A ms n = (k : ℕ) → k < n → A k ≡ true → cut t (marked ms) k ≡ false
+
+-- all streets that a town may have
+abbrev pub any_street : Set
+any_street = marked (replicate 300 true)
+
+-- all crossings that can be come to from one, each with a way
+pub record Spans (t : Town) (c : Component) : Type 0 where
+  pub base : crossings_in c c.from ≡ true
+  pub leads : (v : ℕ) → crossings_in c v ≡ true → Joins t (at c.from) v (path_in c v)
+  pub closed : (k : ℕ) → k < size t → cut t (crossings_in c) k ≡ false

@@ -7,6 +7,7 @@ pub mod Problems
 pub mod Drives
 pub mod Prices
 pub mod Odd
+pub mod Borders
 pub mod Classes
 pub mod Exchange
 pub mod Potentials

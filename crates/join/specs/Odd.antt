@@ -1,12 +1,9 @@
 -- Crossings at which a set has an odd number of ends of streets. Assumes nothing: these are definitions.
-use Rattle.std.specs.Prelude.{◌≡◌, ℕ, ◌<◌, Bool, true, List, length, Some, None, Option, ◌≢◌, slice_index_or}
+use Rattle.std.specs.Prelude.{ℕ, ◌<◌, Bool, List, length, slice_index_or}
 use Rattle.road.specs.declared.leg.Leg.{Leg}
 use Rattle.road.specs.Roads.{Town, times}
 use Rattle.road.specs.Counts.{bit, odd, sum, Set}
 use Rattle.road.specs.Laws.{no_leg}
-use Rattle.ways.specs.declared.way.Way.{Way}
-use Rattle.ways.specs.declared.ways.Ways.{Ways}
-use Rattle.ways.specs.Shown.{to}
 use Rattle.join.specs.Joins.{single, out}
 
 abbrev pub odd_at : Town → Set → ℕ → Bool
@@ -23,8 +20,3 @@ streets_of ls = λ k. odd (times k ls)
 -- the legs are of streets below 300
 abbrev pub Low : List Leg → Type 0
 Low ls = (i : ℕ) → i < length ls → (slice_index_or ls i no_leg).by < 300
-
--- the crossing that was found among the first n: an odd one other than v, to which there is a way; or there is none
-abbrev pub Other : Town → Set → Ways → ℕ → ℕ → Option ℕ → Type 0
-Other t K ws v n None = (w : ℕ) → w < n → (w ≢ v) → odd_at t K w ≡ true → to ws w ≡ None
-Other t K ws v n (Some w) = (w < t.crossings) × (w ≢ v) × (odd_at t K w ≡ true) × ((way : Way) × (to ws w ≡ Some way))

@@ -1,5 +1,7 @@
 -- The stages of a pass: what they leave of lengths and potentials, and what is kept of each. Assumes nothing: these are definitions.
-use Rattle.std.specs.Prelude.{◌≡◌, ℕ, zero, suc, ◌+◌, ◌<◌, ◌≤◌, true, false, not, ◌&&◌, List, length, Some, None, Option, slice_index_or}
+use Rattle.std.specs.Prelude.{◌≡◌, ℕ, zero, suc, ◌+◌, ◌<◌, ◌≤◌, true, false, not, ◌&&◌, List, length, Some, None, Option, slice_index_or, vec_items}
+use Rattle.std.specs.Global.{Vec}
+use Rattle.road.specs.declared.leg.Leg.{Leg}
 use Rattle.road.specs.Roads.{Town}
 use Rattle.road.specs.Counts.{when, size, Set, cut}
 use Rattle.road.specs.Model.{marked}
@@ -13,9 +15,10 @@ use Rattle.join.specs.Exchange as exchange
 use Rattle.join.specs.Amounts.{amount}
 use Rattle.join.specs.Problems.{town_in, costs_in, start_in, reached_in}
 use Rattle.join.specs.Prices.{extra_in, price_in}
-use Rattle.join.specs.Classes.{label_in, way_in, Classed}
+use Rattle.join.specs.Borders.{Bordered}
+use Rattle.join.specs.Classes.{label_in, way_in}
 use Rattle.join.specs.Potentials.{Cheaper, lower}
-use Rattle.join.specs.Turns.{lengths_at, potential_at, Pass}
+use Rattle.join.specs.Turns.{lengths_at, potential_at, Settled}
 use Rattle.join.specs.Outcomes.{Inner}
 use Rattle.join.specs.Progress.{Progress}
 use Rattle.join.specs.Certified.{no_stage, class_at, charge_at, Certified}
@@ -61,10 +64,14 @@ AllStaged q c ss n =
 abbrev pub AllCut : Town → List Stage → Type 0
 AllCut t ss = (i : ℕ) → i < length ss → (k : ℕ) × (k < size t) × (cut t (class_at ss i) k ≡ true)
 
+-- the border of each class is listed
+pub record Listed (t : Town) (ss : List Stage) (bs : List (Vec Leg)) : Type 0 where
+  pub long : length bs ≡ length ss
+  pub border : (i : ℕ) (ls : Vec Leg) → i < length ss → ls ≡ slice_index_or bs i ls → Bordered t (class_at ss i) (vec_items ls)
+
 -- a pass at a level, with its classes and its stages so far
 pub record Run (q : Prices) (c : Classes) (ss : List Stage) (v : Level) : Type 0 where
-  pub pass : Pass q v
-  pub classed : Classed (town_in q.problem) (lengths_at v) c
+  pub settled : Settled q v c
   pub staged : AllStaged q c ss (length ss)
   pub cuts : AllCut (town_in q.problem) ss
   pub after : After q ss (length ss) v

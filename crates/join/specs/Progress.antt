@@ -32,5 +32,5 @@ pub record Progress (t : Town) (l g : ℕ → ℕ) (c : Classes) (n : ℕ) : Typ
 -- how many classes a turn charges
 abbrev pub charges_in : Turn → ℕ
 charges_in (Better f) = 0
-charges_in (Charge s) = 1
+charges_in (Charge s ls) = 1
 charges_in Done = 0

@@ -12,6 +12,7 @@ ghost use Rattle.join.specs.Turns.{lengths_at, potential_at};
 ghost use Rattle.join.specs.Circuits.{Closes};
 ghost use Rattle.join.specs.Outcomes.{Exchanged, Over};
 
+use crate::border::Border;
 use crate::charged::ChargedCut;
 use crate::circuit::Circuit;
 use crate::component::Component;
@@ -75,7 +76,11 @@ impl ChargedCut<'_, '_, '_> {
             town: prices.problem.streets.town,
             marks: &stage.marks,
         };
-        if cut.outs(&found.drives) <= 1 {
+        let border = Border {
+            cut,
+            legs: self.legs,
+        };
+        if border.outs(&found.drives) <= 1 {
             return found;
         }
         let base = prices.extra_for(stage.base);

@@ -1,11 +1,13 @@
 // The streets that lead out of a set of crossings.
-ghost use Rattle.std.specs.Prelude.{◌≡◌, ℕ, ◌<◌, true, false, ◌&&◌, MatchOption};
-ghost use Rattle.road.specs.Counts.{size, cut as cuts};
+ghost use Rattle.std.specs.Prelude.{◌≡◌, ◌<◌, ◌&&◌, IfOk};
+ghost use Rattle.road.specs.Counts.{cut as cuts};
 ghost use Rattle.road.specs.Model.{marked};
-ghost use Rattle.join.specs.Joins.{outs as ways};
+ghost use Rattle.join.specs.Borders.{Bordered};
 ghost use Rattle.join.specs.Weights.{ground, side_of, inner, outer};
 
 use crate::cut::Cut;
+use road::Leg;
+use std::alloc::{AllocError, Global};
 
 impl Cut<'_, '_> {
     // Whether street k has just one end in the set.
@@ -25,15 +27,6 @@ impl Cut<'_, '_> {
         drives[k] && cut
     }
 
-    // How many streets of a set are cut.
-    pub(crate) fn outs(&self, drives: &[bool; 300]) -> usize
-        ensures { result ≡ ways (ground self.now) (side_of self.now) (marked drives.now) }
-    {
-        (0..self.town.count)
-            .filter(|&k| self.is_exit(drives, k))
-            .count()
-    }
-
     // The end of a cut street that is in the set.
     pub(crate) fn inner_end(&self, k: usize) -> usize
         ensures is { result ≡ inner (ground self.now) (side_of self.now) k }
@@ -50,11 +43,16 @@ impl Cut<'_, '_> {
         self.town.end_of(self.town.leg_out(k, self.marks))
     }
 
-    // A street of a set that is cut.
-    pub(crate) fn exit(&self, drives: &[bool; 300]) -> Option<usize>
-        ensures { MatchOption result ((k : ℕ) → k < size (ground self.now) → cuts (ground self.now) (side_of self.now) k ≡ true → marked drives.now k ≡ false)
-            (λ k. (k < self.now.town.now.count) × (marked drives.now k ≡ true) × (cuts (ground self.now) (side_of self.now) k ≡ true)) }
+    // The streets that are cut, each as a leg that leads out.
+    pub(crate) fn legs_out(&self, heap: Global) -> Result<Vec<Leg>, AllocError>
+        ensures { IfOk result (λ legs. Bordered (ground self.now) (side_of self.now) legs.items) }
     {
-        (0..self.town.count).find(|&k| self.is_exit(drives, k))
+        let mut legs = Vec::new(heap);
+        for k in 0..self.town.count {
+            if self.has(k) {
+                legs.push(self.town.leg_out(k, self.marks))?;
+            }
+        }
+        Ok(legs)
     }
 }

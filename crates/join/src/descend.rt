@@ -24,12 +24,14 @@ impl CutPacking<'_, '_, '_> {
     {
         let prices = self.prices;
         let stage = &self.stages[i];
-        level.restore(&prices.problem, stage);
+        let legs = self.borders[i].as_slice();
+        level.restore(&prices.problem, stage, legs);
         let cut = ChargedCut {
             prices,
             classes: self.classes,
             level,
             stage,
+            legs,
         };
         cut.carry(found, component)
     }

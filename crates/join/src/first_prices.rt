@@ -1,24 +1,25 @@
-// The first sets of extra drives and their prices: the depot's set, and on along a shortest way to each crossing.
+// The first sets of extra drives and their prices: the depot's set, and on along the tree to each crossing.
 ghost use Rattle.std.specs.Prelude.{◌≡◌, ◌<◌, true, pos, IfOk};
 ghost use Rattle.road.specs.Model.{marked};
 ghost use Rattle.join.specs.Joins.{Joins, cost};
 ghost use Rattle.join.specs.Problems.{town_in, costs_in, start_in, reached_in};
-ghost use Rattle.join.specs.First.{Leads, Rooted, Begun};
+ghost use Rattle.join.specs.First.{Rooted, Begun};
 
+use crate::component::Component;
 use crate::drives::PricedDrives;
 use crate::prices::Prices;
 use crate::problem::Problem;
-use crate::start::{flip_along, way_to};
+use crate::sets::xor;
 use std::alloc::{AllocError, Global};
-use ways::Ways;
 
-// A problem with a set that leads to the depot, and ways from there to each crossing that can be come to.
+// A problem with a tree from the depot to each crossing that can be come to, and a set that leads to the depot.
 #[derive(Clone, Copy)]
 pub(crate) struct Start<'a, 't, 'c> {
     pub problem: &'a Problem<'t, 'c>,
+    pub tree: &'a Component,
     pub home: &'a [bool; 300],
-    pub ways: &'a Ways,
-    ghost rooted: { ∥ Rooted problem.now (marked home.now) ways.now ∥₁ },
+    ghost rooted: { Rooted problem.now tree.now },
+    ghost joins: { Joins (town_in problem.now) (start_in problem.now) problem.now.streets.town.now.depot (marked home.now) },
 }
 
 impl Problem<'_, '_> {
@@ -33,27 +34,12 @@ impl Problem<'_, '_> {
 }
 
 impl<'t, 'c> Start<'_, 't, 'c> {
-    // The depot's set, and on along the way to crossing u, if there is one.
-    fn along_way(&self, u: usize) -> [bool; 300]
-        requires { u < self.now.problem.now.streets.town.now.crossings }
-        ensures { Leads (town_in self.now.problem.now) self.now.problem.now.streets.town.now.depot (marked self.now.home.now) self.now.ways.now u (marked result) }
-    {
-        match way_to(self.ways, u) {
-            Some(way) => flip_along(self.home, way.legs.as_slice()),
-            None => *self.home,
-        }
-    }
-
-    // The set for crossing u.
+    // The depot's set, and on along the tree to crossing u.
     fn set_for(&self, u: usize) -> [bool; 300]
+        requires { u < 100 }
         ensures { reached_in self.now.problem.now u ≡ true → Joins (town_in self.now.problem.now) (start_in self.now.problem.now) u (marked result) }
     {
-        let problem = self.problem;
-        if u < problem.streets.town.crossings {
-            self.along_way(u)
-        } else {
-            *self.home
-        }
+        xor(self.home, self.tree.path_to(u))
     }
 
     // Sets for the crossings.

@@ -22,7 +22,7 @@ impl Component {
     }
 
     // Comes over street k to a new crossing if it is in the set, and says whether it does.
-    fn grow_over(&mut self, graph: &Subgraph, k: usize) -> bool
+    pub(crate) fn grow_over(&mut self, graph: &Subgraph, k: usize) -> bool
         requires below { k < graph.now.town.now.count }
         requires grown { Grown (model graph.now.town.now) (marked graph.now.set.now) self.old }
         ensures grown { Grown (model graph.now.town.now) (marked graph.now.set.now) self.new }

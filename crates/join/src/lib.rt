@@ -2,6 +2,7 @@
 #![tactic(auto)]
 
 mod alone;
+mod border;
 mod carry;
 mod charged;
 mod circuit;
@@ -20,6 +21,7 @@ mod least;
 mod level;
 mod look;
 mod minimize;
+mod odd;
 mod outcome;
 mod packing;
 mod partition;
@@ -30,10 +32,13 @@ mod relax;
 mod sets;
 mod shift;
 mod solve;
+mod spread;
 mod stage;
+mod stars;
 mod start;
 mod subgraph;
 mod tally;
+mod tree;
 mod turn;
 mod turns;
 mod unite;
@@ -42,5 +47,5 @@ mod weighted;
 
 pub use drives::PricedDrives;
 pub use least::LeastDrives;
-pub use start::first_odd;
+pub use odd::first_odd;
 pub use turn::Stage;

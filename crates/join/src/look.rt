@@ -1,5 +1,5 @@
 // A look at one stage: a set that is cheaper than its potential, a class to charge, or neither.
-ghost use Rattle.std.specs.Prelude.{◌≡◌, ℕ, ◌<◌, ◌≤◌, false};
+ghost use Rattle.std.specs.Prelude.{◌≡◌, ℕ, ◌<◌, ◌≤◌, false, IfOk};
 ghost use Rattle.road.specs.Counts.{size, cut as cuts};
 ghost use Rattle.join.specs.Joins.{cost as costs};
 ghost use Rattle.join.specs.Classes.{class_in};
@@ -8,11 +8,13 @@ ghost use Rattle.join.specs.Prices.{extra_in};
 ghost use Rattle.join.specs.Potentials.{Lowest};
 ghost use Rattle.join.specs.Turns.{lengths_at, potential_at, FindsAt, Named};
 
+use crate::border::Border;
 use crate::contraction::Contraction;
 use crate::cut::Cut;
 use crate::sets::xor;
 use crate::turn::{Found, Stage, Turn};
 use crate::weighted::Weighted;
+use std::alloc::{AllocError, Global};
 
 impl Contraction<'_, '_, '_> {
     // Where no street leads out of the class of b: the set for b goes round over a street that has a length, or no potential is left.
@@ -21,7 +23,7 @@ impl Contraction<'_, '_, '_> {
         requires high { potential_at self.now.level.now b ≤ costs (town_in self.now.prices.now.problem) (lengths_at self.now.level.now) (extra_in self.now.prices.now b) }
         requires none { (k : ℕ) → k < size (town_in self.now.prices.now.problem) → cuts (town_in self.now.prices.now.problem) (class_in self.now.classes.now b) k ≡ false }
         ensures finds { FindsAt self.now.prices.now self.now.level.now result }
-        ensures named { Named self.now.classes.now result }
+        ensures named { Named (town_in self.now.prices.now.problem) self.now.classes.now result }
     {
         let prices = self.prices;
         let level = self.level;
@@ -45,10 +47,48 @@ impl Contraction<'_, '_, '_> {
         }
     }
 
+    // Looks at the class of b, whose set costs no less than its potential.
+    fn look_out(&self, b: usize, heap: Global) -> Result<Turn, AllocError>
+        requires lowest { (Lowest (reached_in self.now.prices.now.problem) (potential_at self.now.level.now) b) × (b < 100) }
+        requires high { potential_at self.now.level.now b ≤ costs (town_in self.now.prices.now.problem) (lengths_at self.now.level.now) (extra_in self.now.prices.now b) }
+        ensures { IfOk result (λ turn. FindsAt self.now.prices.now self.now.level.now turn × Named (town_in self.now.prices.now.problem) self.now.classes.now turn) }
+    {
+        let prices = self.prices;
+        let drives = prices.extra_for(b);
+        let marks = self.classes.class_of(b);
+        let cut = Cut {
+            town: prices.problem.streets.town,
+            marks: &marks,
+        };
+        let legs = prices.problem.legs_out(&marks, heap)?;
+        let border = Border {
+            cut,
+            legs: legs.as_slice(),
+        };
+        if let Some(k) = border.exit(drives) {
+            let x = cut.inner_end(k);
+            return Ok(Turn::Better(Found {
+                crossing: cut.outer_end(k),
+                drives: self.classes.lead_on(drives, b, x, k),
+            }));
+        }
+        match self.level.least_slack(&border, b) {
+            Some(charge) => {
+                let base = b;
+                let stage = Stage {
+                    marks,
+                    charge,
+                    base,
+                };
+                Ok(Turn::Charge(stage, legs))
+            }
+            None => Ok(self.look_inside(b)),
+        }
+    }
+
     // Looks at the class of the crossing with the least potential.
-    pub(crate) fn look(&self) -> Turn
-        ensures finds { FindsAt self.now.prices.now self.now.level.now result }
-        ensures named { Named self.now.classes.now result }
+    pub(crate) fn look(&self, heap: Global) -> Result<Turn, AllocError>
+        ensures { IfOk result (λ turn. FindsAt self.now.prices.now self.now.level.now turn × Named (town_in self.now.prices.now.problem) self.now.classes.now turn) }
     {
         let prices = self.prices;
         let level = self.level;
@@ -59,30 +99,11 @@ impl Contraction<'_, '_, '_> {
             lengths: &level.lengths,
         };
         if streets.cost(drives) < level.potential[b] {
-            return Turn::Better(Found {
+            return Ok(Turn::Better(Found {
                 crossing: b,
                 drives: *drives,
-            });
+            }));
         }
-        let marks = self.classes.class_of(b);
-        let cut = Cut {
-            town: prices.problem.streets.town,
-            marks: &marks,
-        };
-        if let Some(k) = cut.exit(drives) {
-            let x = cut.inner_end(k);
-            return Turn::Better(Found {
-                crossing: cut.outer_end(k),
-                drives: self.classes.lead_on(drives, b, x, k),
-            });
-        }
-        match level.least_slack(&cut, b) {
-            Some(charge) => Turn::Charge(Stage {
-                marks,
-                charge,
-                base: b,
-            }),
-            None => self.look_inside(b),
-        }
+        self.look_out(b, heap)
     }
 }

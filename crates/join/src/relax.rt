@@ -21,7 +21,7 @@ impl Prices<'_, '_> {
     }
 
     // The price of crossing u.
-    fn price_for(&self, u: usize) -> i64
+    pub(crate) fn price_for(&self, u: usize) -> i64
         requires { u < 100 }
         ensures { result ≡ pos (price_in self.now u) }
     {

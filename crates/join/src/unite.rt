@@ -1,8 +1,10 @@
 // Classes merged along the streets of no length.
-ghost use Rattle.std.specs.Prelude.{◌≡◌, ℕ, ◌<◌};
+ghost use Rattle.std.specs.Prelude.{◌≡◌, ℕ, ◌<◌, false, length};
 ghost use Rattle.road.specs.Counts.{one, two};
 ghost use Rattle.road.specs.Model.{marked};
+ghost use Rattle.join.specs.Borders.{street_at};
 ghost use Rattle.join.specs.Joins.{◌⊞◌, single};
+ghost use Rattle.join.specs.Odd.{streets_of};
 ghost use Rattle.join.specs.Weights.{town_of, lengths_of};
 ghost use Rattle.join.specs.Classes.{way_in, label_in, Classed, Merged, Absorbed, Kept, class_in};
 ghost use Rattle.join.specs.Progress.{Progress};
@@ -10,6 +12,7 @@ ghost use Rattle.join.specs.Progress.{Progress};
 use crate::partition::Classes;
 use crate::sets::{flip, xor};
 use crate::weighted::Weighted;
+use road::Leg;
 use std::array::from_fn;
 
 // `Classed` is no invariant of the type: a charge changes the lengths while the classes stay.
@@ -68,6 +71,21 @@ impl Classes {
     {
         for k in 0..streets.town.count {
             self.merge_over(streets, k);
+        }
+    }
+
+    // Merges classes along the streets of legs that have no length, where they are merged along all others.
+    pub(crate) fn merge_along(&mut self, streets: &Weighted, legs: &[Leg])
+        requires classed { Classed (town_of streets.now) (lengths_of streets.now) self.old }
+        requires low { (i : ℕ) → i < length legs.now → street_at legs.now i < streets.now.town.now.count }
+        requires others { (k : ℕ) → k < streets.now.town.now.count → lengths_of streets.now k ≡ 0 → streets_of legs.now k ≡ false → label_in self.old (one (town_of streets.now) k) ≡ label_in self.old (two (town_of streets.now) k) }
+        ensures classed { Classed (town_of streets.now) (lengths_of streets.now) self.new }
+        ensures kept { Kept self.old self.new }
+        ensures progress { (g : ℕ → ℕ) (n : ℕ) → Progress (town_of streets.now) (lengths_of streets.now) g self.old n → Progress (town_of streets.now) (lengths_of streets.now) g self.new n }
+        ensures merged { Merged (town_of streets.now) (lengths_of streets.now) self.new streets.now.town.now.count }
+    {
+        for leg in legs {
+            self.merge_over(streets, leg.by);
         }
     }
 

@@ -1,5 +1,5 @@
 -- The lemmas, by topic.
-pub mod Chains
 pub mod Walks
+pub mod Incidences
 pub mod Pairings
 pub mod DepotExtra

@@ -1,13 +1,10 @@
 -- Walks over streets of a set: one leg more, and where a walk is stuck. Assumes nothing.
-use Rattle.std.proofs.Common.{◌≡◌, ℕ, ◌+◌, ◌-◌, ◌<◌, ◌≤◌, Bool, true, false, eqb, ltb, Option, Some, None, MatchOption, List, [], ◌∷◌, ◌++◌, length, get_or, sym, refl, ap, ◌∙◌, subst, ap₂, ⊎_elim, arith}
+use Rattle.std.proofs.Common.{◌≡◌, ℕ, ◌+◌, ◌-◌, ◌<◌, Bool, true, false, eqb, List, [], ◌∷◌, ◌++◌, sym, refl, ap, ◌∙◌, subst, ap₂, ⊎_elim, arith}
 use mathlib.Core.Path.{fun_ext}
-use Rattle.std.specs.List.{All, HoldsAt, filter, range_with_len}
-use Rattle.std.proofs.lemmas.List.Elements.{All-filter, filter_passes}
-use Rattle.std.proofs.lemmas.List.FromFn.{length-range_with_len, get_or-range_with_len}
-use Rattle.std.proofs.lemmas.Bool.{both_ways, lt-ltb, ltb-true, cases_Bool, cases_eq, eq-eqb, ne_eqb, eqb-true}
+use Rattle.std.proofs.lemmas.Bool.{both_ways, cases_Bool, cases_eq, eq-eqb, ne_eqb, eqb-true}
 use Rattle.road.specs.declared.leg.Leg.{Leg}
 use Rattle.road.specs.Roads.{Town, into, Drive, stay, times}
-use Rattle.road.specs.Counts.{◌⊕◌, bit, odd, sum, size, one, two, ends, Set}
+use Rattle.road.specs.Counts.{◌⊕◌, bit, odd, sum, size, one, two, Set}
 use Rattle.road.proofs.Parity.{xor_false, xor_comm, xor_cancel, xor_same, odd_add, odd_bit}
 use Rattle.road.proofs.Sums.{sum_point}
 use Rattle.road.proofs.Drives.{drive_push, times_append, times_first, times_other}
@@ -15,30 +12,7 @@ use Rattle.join.specs.Joins.{◌⊞◌, single}
 use Rattle.join.specs.Odd.{odd_at, streets_of}
 use Rattle.join.proofs.Joins.{out_none}
 use Rattle.join.proofs.Pairing.{drive_streets, odd_changed}
-use Rattle.pairs.specs.Walks.{Walk, Forth, Each, LeadsOver, LeadsOn, Clear, Walked, Taken}
-use Rattle.pairs.proofs.Chains.{all_passing}
-
--- a leg over the first street that is left and has an end at a crossing, where the streets are looked through one after the other
-module _ (t : Town) (c : ℕ → ℕ) (v n : ℕ) (few : n ≤ size t) where
-  abbrev looked : List ℕ
-  looked = filter (λ k. ltb 0 (c k)) (range_with_len 0 n)
-
-  abbrev pub Leads : ℕ → Option Leg → Type 0
-  Leads k o = MatchOption o (ends t k v ≡ 0) (LeadsOver t k v)
-
-  pub first_leg : (r : Option Leg) → MatchOption r (All (λ k. Leads k None) looked) (λ l. (i : ℕ) × (i < length looked) × HoldsAt (λ k. Leads k (Some l)) looked i) →
-      MatchOption r (Clear t c v n) (LeadsOn t c v)
-  first_leg None none = λ k h p.
-      let at : get_or (range_with_len 0 n) k 0 ≡ k = omega (arith, get_or-range_with_len 0 n k 0 h) in
-      subst (λ j. ltb 0 (c j) ≡ true → ends t j v ≡ 0) at
-      (all_passing (λ k. ltb 0 (c k)) (λ k. ends t k v ≡ 0) (range_with_len 0 n) none k 0 (omega (arith, length-range_with_len 0 n))) (lt-ltb 0 (c k) p)
-  first_leg (Some l) (i, h, leads) =
-      let k = get_or looked i 0 in
-      let over : LeadsOver t k v l = leads 0 in
-      let below : All (λ k. k < n) (range_with_len 0 n) = λ j d b. omega (arith, get_or-range_with_len 0 n j d, length-range_with_len 0 n) in
-      let inside : k < n = All-filter (λ k. ltb 0 (c k)) (λ k. k < n) (range_with_len 0 n) below i 0 h in
-      let some : 0 < c k = ltb-true 0 (c k) (filter_passes (λ k. ltb 0 (c k)) (range_with_len 0 n) i 0 h) in
-      record { below = omega (arith, over.by); left = subst (λ j. 0 < c j) (sym over.by) some; begins = over.begins; forth = over.forth }
+use Rattle.pairs.specs.Walks.{Walk, Forth, Each, LeadsOn, Clear, Walked, Taken}
 
 -- what holds of each of two lists holds of each of both
 pub each_append : {X : Type 0} (P : X → Type 0) (xs ys : List X) → Each P xs → Each P ys → Each P (xs ++ ys)

@@ -1,4 +1,5 @@
 -- The definitions, by topic.
 pub mod Walks
+pub mod Incidences
 pub mod Pairings
 pub mod Laws

@@ -4,8 +4,8 @@ ghost use Rattle.road.specs.Model.{marked};
 ghost use Rattle.join.specs.Laws.{town_of};
 ghost use Rattle.pairs.specs.Pairings.{depot_extra, walks_of, Paired, NoShorter};
 
-use crate::Pair;
 use crate::walk::maximal_trail;
+use crate::{Incidence, Pair};
 use join::{LeastDrives, first_odd};
 use std::alloc::{AllocError, Global};
 
@@ -22,9 +22,10 @@ pub fn pair_up(least: &LeastDrives, heap: Global) -> Result<Vec<Pair>, AllocErro
 {
     let town = &least.town.town;
     let mut left = drives_to_depot(least);
+    let lists = Incidence::new(town);
     let mut pairs = Vec::new(heap);
     while let Some(v) = first_odd(town, &left) {
-        let pair = maximal_trail(town, &mut left, v, heap)?;
+        let pair = maximal_trail(&lists, &mut left, v, heap)?;
         pairs.push(pair)?;
     }
     Ok(pairs)

@@ -1,9 +1,6 @@
 // Plans towns: prints for each a shortest round, its length beside that of all streets, and a sheet that agrees with it.
 #![tactic(auto)]
 
-#[cfg(test)]
-mod tests;
-
 ghost use Rattle.answers.specs.Answers.{Plans};
 
 use answers::{NoAnswer, plan_answer};

@@ -1,23 +1,20 @@
 -- What chains over the numbers below a bound find, how many they count, and what they sum. Assumes nothing.
-use Rattle.std.proofs.Common.{◌≡◌, ℕ, zero, suc, ◌+◌, ◌%◌, ◌<◌, ◌≤◌, Bool, true, false, ◌&&◌, List, [], ◌∷◌, length, filter, map, fold, take, Option, Some, None, MatchOption, ℤ, pos, ◌+ℤ◌, FitsSigned, w64, refl, sym, ap, ap₂, ◌∙◌, subst, ⊎_elim, eqb, map-id, zero-add, arith, rules}
+use Rattle.std.proofs.Common.{◌≡◌, ℕ, zero, suc, ◌+◌, ◌%◌, ◌<◌, ◌≤◌, Bool, true, false, List, [], ◌∷◌, length, filter, map, fold, take, Option, Some, None, MatchOption, ℤ, pos, ◌+ℤ◌, FitsSigned, w64, refl, sym, ap, ap₂, ◌∙◌, subst, ⊎_elim, eqb, map-id, zero-add, arith}
 use Rattle.std.proofs.iter.Yields.{nat_range_steps}
-use Rattle.std.proofs.iter.runs.Made.{at-is}
-use Rattle.std.proofs.iter.runs.Sources.{nat_range_steps_back, range_runs}
-use Rattle.std.proofs.lemmas.Bool.{both_ways, cases_eq, false_from_ne_true}
+use Rattle.std.proofs.iter.runs.Sources.{nat_range_steps_back}
+use Rattle.std.proofs.lemmas.Bool.{both_ways, cases_eq}
 use Rattle.std.proofs.lemmas.Int.{ints}
 use Rattle.std.proofs.lemmas.Iterator.{YieldsList, first_from_Range, YieldsList-from_range, YieldsList-from_map}
 use Rattle.std.proofs.lemmas.Iterator.Adapters.{total_from_yields_List}
 use Rattle.std.proofs.lemmas.Iterator.Consumers.{count_from_yields_List, fits_by_from_yields_list, sum_by_from_yields_List, YieldsList-from_filter, YieldsList-so_far}
 use Rattle.std.proofs.lemmas.List.Sums.{sum_by-cons}
-use Rattle.std.proofs.lemmas.Option.{slice_get_within}
 use Rattle.std.specs.Bool.{⊤}
 use Rattle.std.specs.Fn.{CalledAt}
 use Rattle.std.specs.Iterator.{CallableAtEachTurn, Drains, Yields, YieldsThen}
 use Rattle.std.specs.Iterator.Adapters.{filter_source, filter_callee, filter_steps, filter_map_source, filter_map_callee, filter_map_steps, rev_source, rev_steps, map_source, map_callee, map_steps}
-use Rattle.std.specs.Iterator.Runs.{AllItems, AnyItem, EachRunFrom, IsFilterMapRun, ItemsCountUp, Run, SomeRun, WholeRun, YieldsRun}
+use Rattle.std.specs.Iterator.Runs.{EachRunFrom, YieldsRun}
 use Rattle.std.specs.Option.{IsSome}
-use Rattle.std.specs.List.{FoldsTo, cons_option, filter_map, range_with_len, slice_get, sum_by}
-use Rattle.std.specs.Ordering.{int_cmp, is_lt}
+use Rattle.std.specs.List.{FoldsTo, range_with_len, sum_by}
 use Rattle.std.specs.declared.iter.Filter.{Filter}
 use Rattle.std.specs.declared.iter.FilterMap.{FilterMap}
 use Rattle.std.specs.declared.iter.Map.{Map}
@@ -26,7 +23,7 @@ use Rattle.std.specs.declared.ops.Range.{Range}
 use mathlib.Core.Bool.{cond}
 use denote.Param.Members.{Mut, Called}
 use denote.Ref.{Bor}
-use Rattle.road.specs.Counts.{when, bit, odd, par, sum}
+use Rattle.road.specs.Counts.{bit, odd, par, sum}
 use Rattle.road.proofs.Parity.{odd_bit, odd_mod}
 use Rattle.road.proofs.Sums.{odd_sum, par_ext, sum_ext, sum_front}
 use Rattle.road.proofs.First.{FirstBroken}
@@ -92,16 +89,6 @@ bit_one false = refl
 pub odd_count : (n : ℕ) {r : ℕ} (test : ℕ → Bool) → r ≡ sum n (λ k. bit (test k)) → eqb (r % 2) 1 ≡ par n test
 odd_count n {r = r} test e =
     ap (λ m. eqb m 1) (odd_mod r) ∙ bit_one (odd r) ∙ ap odd e ∙ odd_sum n (λ k. bit (test k)) ∙ par_ext n (λ k. odd (bit (test k))) test (λ k _. odd_bit (test k))
-
--- where two tests are to hold
-pub count_both : (a b : ℕ → Bool) (n : ℕ) → sum n (λ k. bit (a k && b k)) ≡ sum n (λ k. when (b k) (bit (a k)))
-count_both a b n = sum_ext n (λ k. bit (a k && b k)) (λ k. when (b k) (bit (a k))) (λ k _. at (a k) (b k))
-  where
-    at : (x y : Bool) → bit (x && y) ≡ when y (bit x)
-    at true true = refl
-    at true false = refl
-    at false true = refl
-    at false false = refl
 
 -- numbers that a closure refuses, from the last on
 module _ {F B : Type 0} (g : Mut F (ℕ × Unit {0}) (Option B)) (f : F) (No : ℕ → Type 0) (refused : (x : ℕ) (q : F) → Called g f (x, tt) None q → (q ≡ f) × No x) where
@@ -178,53 +165,6 @@ module _ {F B : Type 0} {g : Mut F (B × (ℕ × Unit {0})) B} {f : F} {init : B
       let h = held ran.0 all end.0 (f, init) (ran.1, r) end.1 refl (omega arith) ran.3 refl begins in
       let last : end.0.start ≡ n = omega (arith, end.2.1.0, h.0, h.1) in
       subst (λ m. I m r) last h.3
-
--- what `filter_map` gives of an item stands in its list
-given_at : {A B : Type 0} (h : A → Option B) (xs : List A) (j : ℕ) (x : A) (y : B) → slice_get xs j ≡ Some x → h x ≡ Some y → (i : ℕ) × (slice_get (filter_map h xs) i ≡ Some y)
-given_at h [] j x y e k = absurd cc
-given_at h (z ∷ xs) zero x y e k = (0, grind (arith, ap h, k, e))
-given_at h (z ∷ xs) (suc j) x y e k =
-    let r = given_at h xs j x y e k in
-    elim (h z) as (λ o. (i : ℕ) × (slice_get (cons_option o (filter_map h xs)) i ≡ Some y)) [ None ↦ r | Some a ↦ (suc r.0, r.1) ]
-
--- `min` after `filter_map`, over the numbers below n: the least weight of those that pass a test
-module _ {F : Type 0} {g : Mut F (ℕ × Unit {0}) (Option ℤ)} {f : F} (n : ℕ) (test : ℕ → Bool) (w : ℕ → ℕ)
-    (gives : (x : ℕ) (r : Option ℤ) (q : F) → Called g f (x, tt) r q → (q ≡ f) × MatchOption r (test x ≡ false) (λ e. (test x ≡ true) × (e ≡ pos (w x)))) where
-  abbrev steps : FilterMap (Range ℕ) F → Option ℤ → FilterMap (Range ℕ) F → Type 0
-  steps = filter_map_steps nat_range_steps g
-
-  abbrev weight : ℕ → Option ℤ
-  weight k = cond (test k) (Some (pos (w k))) None
-
-  acts : (x : ℕ) (r : Option ℤ) (q : F) → Called g f (x, tt) r q → (q ≡ f) × (r ≡ weight x)
-  acts x r q e = search (rules, gives x r q e)
-
-  module _ (p : Run steps) (q : Run nat_range_steps) (from : q.from ≡ record { start = 0; end = n }) (whole : p.whole ≡ true) (of : IsFilterMapRun p q g f) where
-    abbrev numbers : ItemsCountUp q q.from.start q.from.end
-    numbers = range_runs q q.seen
-
-    number_at : (k : ℕ) → k < n → q.at k ≡ Some k
-    number_at k l =
-        let long : q.len ≡ n = omega (arith, numbers.1 (of.0 ∙ whole), ap (λ (r : Range ℕ). r.start) from, ap (λ (r : Range ℕ). r.end) from) in
-        search (rules, numbers.3 k)
-
-    weight_at : (k : ℕ) → k < n → test k ≡ true → (i : ℕ) × (p.at i ≡ Some (pos (w k)))
-    weight_at k l met =
-        let r = given_at weight q.items k k (pos (w k)) (sym (at-is q k) ∙ number_at k l) (rw met) in
-        (r.0, at-is p r.0 ∙ ap (λ xs. slice_get xs r.0) (of.3 weight acts) ∙ r.1)
-
-    least : (r : Option ℤ) → MatchOption r (p.len ≡ 0) (λ m. AnyItem p (λ x. x ≡ m) × AllItems p (λ x. is_lt (int_cmp x m) ≡ false)) →
-        MatchOption r ((k : ℕ) → k < n → test k ≡ false) (λ m. (k : ℕ) × (k < n) × (test k ≡ true) × (m ≡ pos (w k)) × ((j : ℕ) → j < n → test j ≡ true → w k ≤ w j))
-    least None h = λ k l. false_from_ne_true (test k) (λ met. let i = weight_at k l met in search (rules, h, p.long, at-is p i.0, i.1, slice_get_within))
-    least (Some m) h =
-        let i = of.2 (λ a r q e. (gives a.0 r q e).0) h.0.0 in
-        let d : (k : ℕ) × (k < n) × (test k ≡ true) × (m ≡ pos (w k)) = search (rules, gives, h.0.2, i, numbers.2) in
-        (d.0, d.1, d.2, d.3, λ j u met. let i = weight_at j u met in search (rules, ints, h.1 i.0, i.1, d.3))
-
-  pub least_below : {s : FilterMap (Range ℕ) F} (r : Option ℤ) → WholeRun steps s (λ p. MatchOption r (p.len ≡ 0) (λ m. AnyItem p (λ x. x ≡ m) × AllItems p (λ x. is_lt (int_cmp x m) ≡ false))) →
-      EachRunFrom steps s (λ p. SomeRun nat_range_steps (record { start = 0; end = n }) (λ q. IsFilterMapRun p q g f)) →
-      MatchOption r ((k : ℕ) → k < n → test k ≡ false) (λ m. (k : ℕ) × (k < n) × (test k ≡ true) × (m ≡ pos (w k)) × ((j : ℕ) → j < n → test j ≡ true → w k ≤ w j))
-  least_below r ran runs = let q = runs ran.0 ran.0.seen ran.1 in least ran.0 q.0 q.1 ran.2 q.2 r ran.3
 
 -- what a chain gives for each number below n
 given_below : {F B : Type 0} {g : Mut F (ℕ × Unit {0}) B} {s : Map (Range ℕ) F} {f : F} (n : ℕ) (h : ℕ → B) → map_source s ≡ record { start = 0; end = n } → map_callee s ≡ f →

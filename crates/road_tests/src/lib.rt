@@ -1,5 +1,8 @@
-// Tests of road by table: refusals with their places, and drives with their faults.
+// Tests of road by table: refusals with their places, and drives with their faults; and the streets of towns by rule are counted.
 #![tactic(auto)]
+
+#[cfg(test)]
+mod rule;
 
 #[cfg(test)]
 mod tests {

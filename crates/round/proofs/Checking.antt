@@ -1,9 +1,8 @@
 -- The checker's word on what the planner writes. Assumes nothing.
-use Rattle.std.proofs.Common.{◌≡◌, ℕ, ◌+◌, ◌*◌, ◌/◌, ◌<◌, ◌≤◌, true, not, ltb, leb, List, [], ◌∷◌, map, length, get_or, take, drop, None, sym, refl, ap, ◌∙◌, ap₂, mul-div_cancel, arith, Ok, Err, Result}
+use Rattle.std.proofs.Common.{◌≡◌, ℕ, ◌+◌, ◌*◌, ◌/◌, ◌<◌, ◌≤◌, true, not, ltb, leb, List, map, length, get_or, take, drop, None, sym, refl, ap, ◌∙◌, ap₂, mul-div_cancel, arith, Ok, Err, Result}
 use Rattle.std.proofs.lemmas.List.{length-map, get_or-map, take_at}
 use Rattle.std.proofs.lemmas.Bool.{le-leb, lt-ltb}
 use Rattle.road.specs.declared.leg.Leg.{Leg}
-use Rattle.road.specs.declared.fault.Fault.TheVariants.{Leg as AtLeg, Home, Street as LeftOut}
 use Rattle.road.specs.Roads.{Town, Drive, far}
 use Rattle.road.specs.Counts.{size}
 use Rattle.road.specs.First.{first, unless_all}
@@ -17,8 +16,7 @@ use Rattle.sheet.specs.Sheet.{Part, no_part}
 use Rattle.sheet.specs.Numbers.{sheet_in}
 use Rattle.road.specs.declared.refusal.Refusal.{Refusal}
 use Rattle.sheet.specs.declared.word.Word.{Word}
-use Rattle.sheet.specs.declared.word.Word.TheVariants.{NoRound, NoSheet, Shortest, Apart}
-use Rattle.sheet.specs.declared.word.SheetFault.TheVariants.{Part as AtPart, Street as AtStreet}
+use Rattle.sheet.specs.declared.word.Word.TheVariants.{Shortest}
 use Rattle.sheet.specs.Words.{said, judged, unless_refused, check_refusal, parts_refusal}
 use Rattle.sheet.proofs.Said.{said_word}
 use Rattle.sheet.proofs.Judged.{word_shortest}

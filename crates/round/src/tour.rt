@@ -7,25 +7,25 @@ ghost use Rattle.round.specs.Tours.{count_in, Even, ClosedTour, Tour};
 
 use crate::counts::drive_counts;
 use join::LeastDrives;
-use pairs::{drives_to_depot, maximal_trail};
-use road::{Leg, Town};
+use pairs::{Incidence, drives_to_depot, maximal_trail};
+use road::Leg;
 use std::alloc::{AllocError, Global};
 
 // A walk that is closed, since the degrees are even, and before each of its legs a closed tour over what is left there.
 fn closed_tour(
-    town: &Town,
+    lists: &Incidence,
     left: &mut [usize; 300],
     start: usize,
     heap: Global,
 ) -> Result<Vec<Leg>, AllocError>
-    requires { Even (model town.now) (count_in left.old) }
-    ensures { IfOk result (λ ls. ClosedTour (model town.now) (count_in left.old) (count_in left.new) start ls.items) }
+    requires { Even (model lists.now.town.now) (count_in left.old) }
+    ensures { IfOk result (λ ls. ClosedTour (model lists.now.town.now) (count_in left.old) (count_in left.new) start ls.items) }
 {
-    let walk = maximal_trail(town, left, start, heap)?;
+    let walk = maximal_trail(lists, left, start, heap)?;
     let mut legs = Vec::new(heap);
     for leg in &walk.legs {
-        let at = town.begin_of(*leg);
-        let inner = closed_tour(town, left, at, heap)?;
+        let at = lists.town.begin_of(*leg);
+        let inner = closed_tour(lists, left, at, heap)?;
         legs.extend_from_slice(&inner)?;
         legs.push(*leg)?;
     }
@@ -38,5 +38,5 @@ pub(crate) fn tour(least: &LeastDrives, heap: Global) -> Result<Vec<Leg>, AllocE
 {
     let town = &least.town.town;
     let mut left = drive_counts(&drives_to_depot(least));
-    closed_tour(town, &mut left, town.depot, heap)
+    closed_tour(&Incidence::new(town), &mut left, town.depot, heap)
 }

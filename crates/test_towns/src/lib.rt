@@ -5,8 +5,6 @@ mod drive;
 mod given;
 mod random;
 mod rule;
-#[cfg(test)]
-mod tests;
 mod worked;
 
 pub use drive::end_of_drive;

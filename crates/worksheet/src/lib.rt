@@ -6,8 +6,6 @@ mod laws;
 mod lines;
 mod part;
 mod rows;
-#[cfg(test)]
-mod tests;
 mod text;
 mod write;
 

@@ -19,7 +19,7 @@ loop-v-smaller c =
     let t = town_of c.args.least.now in
     let J = marked c.loop-v.left in
     let L = marked c.maximal_trail.new.left in
-    let h = c.in_ok-pair.ensures in
+    let h = rw c.new-lists.ensures at c.in_ok-pair.ensures in
     let walk = walk_of c.in_ok-pair.pair in
     left_fewer t J L walk (omega (arith, h.0, c.in-Some.ensures.0)) (trail_taken t J L c.in-Some.v walk h c.in-Some.ensures.1)
 
@@ -30,7 +30,7 @@ loop-v-preserved c =
     let L = marked c.maximal_trail.new.left in
     let pair = c.in_ok-pair.pair in
     left_more (town_of s) (depot_extra s) J L (vec_items c.loop-v.pairs) (vec_items c.push.new.self) pair c.in_ok-push.ensures.items c.loop-v.invariant
-    (trail_taken (town_of s) J L c.in-Some.v (walk_of pair) c.in_ok-pair.ensures c.in-Some.ensures.1)
+    (trail_taken (town_of s) J L c.in-Some.v (walk_of pair) (rw c.new-lists.ensures at c.in_ok-pair.ensures) c.in-Some.ensures.1)
 
 pub returns : goal.returns
 returns c = all_paired c.args.least.now (marked c.loop-v.left) (walks_of (vec_items c.loop-v.pairs)) c.loop-v.invariant c.in_default.ensures

@@ -5,7 +5,7 @@ use Rattle.pairs.proofs.Walks.{going_start, going_on, fewer_left}
 use Rattle.pairs.proofs.walk.maximal_trail.Goals as goal
 
 pub walk-init : goal.walk-init
-walk-init g c = going_start (model c.args.town.now) (g.S.Multiset.multiplicity c.args.left.now) c.args.start (vec_items c.new-legs.result) c.new-legs.ensures.items
+walk-init g c = going_start (model c.args.lists.now.town.now) (g.S.Multiset.multiplicity c.args.left.now) c.args.start (vec_items c.new-legs.result) c.new-legs.ensures.items
 
 pub walk-smaller : goal.walk-smaller
 walk-smaller g c = fewer_left (g.S.Multiset.multiplicity c.remove.new.self) c.in-Some.ensures c.remove.ensures

@@ -8,7 +8,7 @@ use Rattle.pairs.proofs.walk.maximal_trail.Given as goal
 abbrev pub invariant-walk : goal.invariant-walk
 invariant-walk g l =
     let multiplicity = g.S.Multiset.multiplicity in
-    Going (model l.town) (multiplicity l.initial.left) (multiplicity l.left) l.start l.at (vec_items l.legs)
+    Going (model l.lists.town.now) (multiplicity l.initial.left) (multiplicity l.left) l.start l.at (vec_items l.legs)
 
 abbrev pub decreases-walk : goal.decreases-walk
-decreases-walk g l = sum (size (model l.town)) (g.S.Multiset.multiplicity l.left)
+decreases-walk g l = sum (size (model l.lists.town.now)) (g.S.Multiset.multiplicity l.left)

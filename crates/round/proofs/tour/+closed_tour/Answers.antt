@@ -11,7 +11,7 @@ loop-leg-init t c = touring_start c.deref-leg-items.ensures.value c.requires c.i
 
 pub closed_tour-requires : goal.closed_tour-requires
 closed_tour-requires t c =
-    let town = c.args.town.now in
+    let town = c.args.lists.now.town.now in
     let fewer = touring_fewer c.deref-leg-items.ensures.value c.requires c.in_ok-walk.ensures c.loop-leg.leg-index c.loop-leg.invariant c.loop-leg-test.true 300 (omega (arith, size_model town, town.few)) in
     (omega (arith, fewer, c.decreases), c.loop-leg.invariant.even)
 

@@ -10,4 +10,4 @@ abbrev pub decreases-closed_tour : goal.decreases-closed_tour
 decreases-closed_tour l = sum 300 (count_in l.left.now)
 
 abbrev pub invariant-loop-leg : goal.invariant-loop-leg
-invariant-loop-leg l = Touring (model l.town) (with_legs l.leg-items (count_in l.initial.left)) (count_in l.left) l.start (vec_items l.legs) (drop l.leg-index l.leg-items)
+invariant-loop-leg l = Touring (model l.lists.town.now) (with_legs l.leg-items (count_in l.initial.left)) (count_in l.left) l.start (vec_items l.legs) (drop l.leg-index l.leg-items)

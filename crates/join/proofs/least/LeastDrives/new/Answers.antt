@@ -1,10 +1,10 @@
 -- The steps of the proof of `new` that are not found by search.
-use Rattle.std.proofs.Common.{true, false, sym, refl, ap, ◌∙◌, arith}
+use Rattle.std.proofs.Common.{true, false, sym, refl, ap, ◌∙◌, subst, arith}
 use Rattle.std.proofs.lemmas.List.{get_or-replicate}
 use Rattle.road.specs.Model.{model}
 use Rattle.road.proofs.Reached.{reached_start}
-use Rattle.ways.specs.Shown.{to}
-use Rattle.join.proofs.Entering.{double_most, come_below, come_two, way_come, way_some, charge_small, certified_double}
+use Rattle.join.specs.Borders.{Stars}
+use Rattle.join.proofs.Entering.{double_most, tree_finds, come_two, charge_small, certified_double}
 use Rattle.join.proofs.Parts.{least_drives}
 use Rattle.join.proofs.least.LeastDrives.new.Goals as goal
 
@@ -20,20 +20,18 @@ pub invariant_of-problem : goal.invariant_of-problem
 invariant_of-problem c =
     let s = c.args.town.now in
     let d = c.double_lengths-costs.ensures in
-    let r = c.reached_by-reached.ensures in record {
-      places = r.long;
+    let tree = c.in_ok-tree.tree in
+    let r = tree_finds s tree c.in_ok-tree.ensures.0 c.in_ok-tree.ensures.1 in record {
+      places = tree.places;
+      rows = subst (λ xs. Stars (model s.town) xs s.town.crossings) (sym c.as_slice.ensures.value) c.in_ok-stars.ensures;
       even = λ k. omega (arith, ap (λ f. f k) d.is);
-      home = r.is s.town.depot ∙ reached_start (model s.town) s.town.depot;
-      ones = λ k h. r.is _ ∙ s.reached k h;
-      twos = λ k h. r.is _ ∙ come_two s k h;
+      home = r s.town.depot ∙ reached_start (model s.town) s.town.depot;
+      ones = λ k h. r _ ∙ s.reached k h;
+      twos = λ k h. r _ ∙ come_two s k h;
     }
 
-pub solve-requires-clause-found : goal.solve-requires-clause-found
-solve-requires-clause-found c u h =
-    let t = c.args.town.now.town in
-    let y = sym (c.reached_by-reached.ensures.is u) ∙ h in
-    let b = come_below t u y in
-    (b, way_some (to c.in_ok-ways.ways u) (way_come (model t) t.depot u (to c.in_ok-ways.ways u) (c.in_ok-ways.ensures.ways u b) ∙ y))
+pub solve-requires : goal.solve-requires
+solve-requires c = record { from = c.in_ok-tree.ensures.0; spans = c.in_ok-tree.ensures.1; found = refl }
 
 pub invariant_of-result : goal.invariant_of-result
 invariant_of-result c =
@@ -41,9 +39,9 @@ invariant_of-result c =
     let q = c.in_ok-prices.field-0.prices in
     let same = c.double_lengths-costs.ensures.is in
     let k = certified_double _ q _ e.problem e.shown same (λ k. get_or-replicate 300 k true false) in record {
-      places = c.reached_by-reached.ensures.long;
+      places = c.in_ok-tree.tree.places;
       rows = q.rows;
-      found = c.reached_by-reached.ensures.is;
+      found = tree_finds c.args.town.now c.in_ok-tree.tree c.in_ok-tree.ensures.0 c.in_ok-tree.ensures.1;
       small = charge_small _ q _ e.problem e.shown same;
       joins = k.joins;
       costs = k.costs;

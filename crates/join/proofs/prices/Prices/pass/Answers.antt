@@ -1,14 +1,15 @@
 -- The steps of the proof of `pass` that are not found by search.
 use Rattle.std.proofs.Common.{vec_items, subst}
 use Rattle.join.specs.Passes.{Ends}
-use Rattle.join.proofs.Beginning.{begin_run}
+use Rattle.join.specs.Problems.{town_in}
+use Rattle.join.proofs.Beginning.{listed_none}
 use Rattle.join.proofs.Certifying.{certify}
 use Rattle.join.proofs.Reversing.{shows_back}
 use Rattle.join.proofs.prices.Prices.pass.Goals as goal
 
 pub take_turns-requires : goal.take_turns-requires
 take_turns-requires c =
-    rw c.new-stages.ensures.items (begin_run _ _ _ c.level-level.ensures.pass c.level-level.ensures.after c.in_ok-classes.ensures)
+    rw (c.in_ok-stages.ensures.items, c.in_ok-borders.ensures.items) (record { run = c.in_ok-classes.ensures; listed = listed_none (town_in c.args.self.now.problem) })
 
 pub returns : goal.returns
 returns c =
