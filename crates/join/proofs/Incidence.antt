@@ -7,7 +7,7 @@ use Rattle.std.proofs.lemmas.List.{take_all, length_push, length-replicate, get_
 use Rattle.std.proofs.lemmas.Bool.{cases_eq, cases_lt, both_ways, eqb-true, eq-eqb, ne_eqb, lt-ltb, le-ltb, ltb-true}
 use Rattle.road.specs.declared.leg.Leg.{Leg}
 use Rattle.road.specs.declared.town.Town as town
-use Rattle.road.specs.Roads.{pick, Town, into}
+use Rattle.road.specs.Roads.{pick, Town, from, into}
 use Rattle.road.specs.Counts.{◌⊕◌, one, two, Set, cut}
 use Rattle.road.proofs.Parity.{xor_false}
 use Rattle.road.specs.Laws.{no_leg}
@@ -62,6 +62,19 @@ or_true false = refl
 pub star_read : (t : Town) (rows : List (Vec Leg)) (n : ℕ) → Stars t rows n → (v : ℕ) → v < n → (x : Vec Leg) → x ≡ get_or rows v x → (xs : List Leg) → xs ≡ vec_items (get_or rows v x) → Bordered t (single v) xs
 star_read t rows n s v h x found xs e = subst (Bordered t (single v)) (sym (e ∙ ap vec_items (sym found))) (s.star v x h found)
 
+-- the end of a street that is cut, in Z
+inner_in : (t : Town) (Z : Set) (k : ℕ) → cut t Z k ≡ true → Z (inner t Z k) ≡ true
+inner_in t Z k c = go (Z (one t k)) refl
+  where
+    go : (b : Bool) → Z (one t k) ≡ b → Z (pick (not b) (two t k) (one t k)) ≡ true
+    go true e = e
+    go false e = sym (ap (λ b. b ⊕ Z (two t k)) e) ∙ c
+
+-- its legs begin there
+pub star_begin : (t : Town) (v : ℕ) (l : Leg) → LeadsOut t (single v) l → from t l ≡ v
+unfolding from
+star_begin t v l o = ap (λ b. pick b (two t l.by) (one t l.by)) o.back ∙ eqb-true (inner t (single v) l.by) v (inner_in t (single v) l.by o.cuts)
+
 -- no crossing yet
 pub from_none : (t : Town) (Z : Set) → BorderedFrom t Z 0 []
 from_none t Z = record {
@@ -70,14 +83,6 @@ from_none t Z = record {
   apart = λ i j h k. absurd (omega arith);
   all = λ k. ap (λ (J : Set). J k) streets_none ∙ sym (ap (λ b. b && cut t Z k) (le-ltb (inner t Z k) 0 (omega arith)));
 }
-
--- the end of a street that is cut, in Z
-inner_in : (t : Town) (Z : Set) (k : ℕ) → cut t Z k ≡ true → Z (inner t Z k) ≡ true
-inner_in t Z k c = go (Z (one t k)) refl
-  where
-    go : (b : Bool) → Z (one t k) ≡ b → Z (pick (not b) (two t k) (one t k)) ≡ true
-    go true e = e
-    go false e = sym (ap (λ b. b ⊕ Z (two t k)) e) ∙ c
 
 -- a crossing that is not in Z has no street to add
 pub from_past : (t : Town) (Z : Set) (n : ℕ) (ls : List Leg) → BorderedFrom t Z n ls → Z n ≡ false → BorderedFrom t Z (n + 1) ls

@@ -26,7 +26,6 @@ pub mod Stages
 pub mod Leasts
 pub mod Looking
 pub mod Starting
-pub mod Carrying
 pub mod Charging
 pub mod Progress
 pub mod Growing

@@ -1,8 +1,13 @@
 -- How sets and prices change at one crossing. Assumes nothing.
-use Rattle.std.proofs.Common.{◌≡◌, ℕ, ◌+◌, ◌-◌, ◌<◌, ◌≤◌, Bool, true, false, not, get_or, set, vec_items, sym, refl, ap, ◌∙◌, arith}
+use Rattle.std.proofs.Common.{◌≡◌, ℕ, ◌+◌, ◌-◌, ◌<◌, ◌≤◌, Bool, true, false, not, ◌||◌, get_or, set, vec_items, sym, refl, ap, ◌∙◌, subst, arith}
+use Rattle.std.specs.Bool.{⊤}
 use Rattle.std.proofs.lemmas.List.{get_or-set_same, get_or-set_other}
+use Rattle.std.proofs.lemmas.Bool.{both_ways}
 use Rattle.road.specs.Roads as roads
-use Rattle.road.specs.Counts.{sum, size, Side, forth, back}
+use Rattle.road.specs.declared.leg.Leg.{Leg}
+use Rattle.road.specs.Counts.{sum, size, Set, Side, forth, back}
+use Rattle.road.specs.Model.{marked}
+use Rattle.road.proofs.Cuts.{leg_side}
 use Rattle.road.proofs.Models.{size_model}
 use Rattle.road.proofs.Sums.{sum_point}
 use Rattle.join.specs.declared.problem.Problem.{Problem}
@@ -13,7 +18,7 @@ use Rattle.join.specs.Amounts.{amount}
 use Rattle.join.specs.Weights.{end_of}
 use Rattle.join.specs.Problems.{town_in, costs_in, start_in, reached_in}
 use Rattle.join.specs.Drives.{no_drives, price_of}
-use Rattle.join.specs.Prices.{extra_in, price_in, all_prices, Near}
+use Rattle.join.specs.Prices.{extra_in, price_in, all_prices, Near, Led, Lowered}
 use Rattle.join.proofs.Joins.{join_on, side_join}
 use Rattle.join.proofs.StreetSets.{cost_near}
 
@@ -32,6 +37,13 @@ pub end_side : (t : roads.Town) (k : ℕ) (b : Bool) → Side t k (end_of t k b)
 end_side t k true = back
 end_side t k false = forth
 
+-- a set leads on over a leg
+pub carried : (p : Problem) (l : Leg) (J : Set) → l.by < size (town_in p) → Joins (town_in p) (start_in p) (roads.from (town_in p) l) J → Joins (town_in p) (start_in p) (roads.into (town_in p) l) (J ⊞ single l.by)
+unfolding roads.from roads.into
+carried p l J h j =
+    join_on (town_in p) (start_in p) (roads.from (town_in p) l) (roads.into (town_in p) l) J (single l.by) j
+    (side_join (town_in p) l.by (roads.from (town_in p) l) (roads.into (town_in p) l) h (leg_side (town_in p) l.by l.back))
+
 -- the ends of a street can be come to
 pub end_reached : (p : Problem) (k : ℕ) (b : Bool) → k < size (town_in p) → reached_in p (end_of (town_in p) k b) ≡ true
 end_reached p k true h = p.twos k h
@@ -40,6 +52,34 @@ end_reached p k false h = p.ones k h
 pub side_reached : (p : Problem) (k x y : ℕ) → k < size (town_in p) → Side (town_in p) k x y → reached_in p x ≡ true
 side_reached p k x y h forth = p.ones k h
 side_reached p k x y h back = p.twos k h
+
+-- nothing is lowered
+pub lowered_none : (q : Prices) → Lowered q q false ⊤
+lowered_none q = record { problem = refl; less = λ e. absurd (both_ways false refl e); same = λ _. (refl, tt) }
+
+-- prices after one attempt and another
+pub lowered_then : (q r s : Prices) (a b : Bool) → Lowered q r a ⊤ → Lowered r s b ⊤ → Lowered q s (a || b) ⊤
+lowered_then q r s true b h i = record {
+  problem = i.problem ∙ h.problem;
+  less = λ _. later b refl;
+  same = λ e. absurd (both_ways true e refl);
+}
+  where
+    later : (d : Bool) → b ≡ d → all_prices s < all_prices q
+    later true e = omega (arith, h.less refl, i.less e)
+    later false e = let is = (i.same e).0 in omega (arith, h.less refl, ap all_prices is)
+lowered_then q r s false b h i = let is = (h.same refl).0 in subst (λ r. Lowered r s b ⊤) is i
+
+-- the set for the crossing where a leg begins, as it is there
+pub led_begin : (q : Prices) (l : Leg) (d : PricedDrives) (x : ℕ) → l.by < q.problem.streets.town.now.count → x ≡ roads.from (town_in q.problem) l →
+    marked d.drives ≡ extra_in q x → amount d.price ≡ price_in q x → Led q.problem (roads.from (town_in q.problem) l) d
+led_begin q l d x h ex set price =
+    let p = q.problem in
+    let r = ap (reached_in p) (ex ∙ begin_is (town_in p) l.by l.back) ∙ end_reached p l.by l.back (omega (arith, size_model p.streets.town.now)) in
+    record {
+      joins = subst (λ u. Joins (town_in p) (start_in p) u (marked d.drives)) ex (subst (Joins (town_in p) (start_in p) x) (sym set) (q.joins x r));
+      costs = price ∙ q.costs x r ∙ ap (cost (town_in p) (costs_in p)) (sym set);
+    }
 
 -- another set for one crossing, with its cost
 module _ (q : Prices) (y : ℕ) (d : PricedDrives) (h : y < 100) where

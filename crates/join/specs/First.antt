@@ -20,8 +20,3 @@ pub record Begun (p : Problem) (ss : List PricedDrives) (n : ℕ) : Type 0 where
   pub long : length ss ≡ n
   pub joins : (u : ℕ) → u < n → reached_in p u ≡ true → Joins (town_in p) (start_in p) u (drives_of ss u)
   pub costs : (u : ℕ) → u < n → price_of ss u ≡ cost (town_in p) (costs_in p) (drives_of ss u)
-
--- for some crossings sets that lead there
-pub record Fit (p : Problem) (ss : List (Option (List Bool))) : Type 0 where
-  pub long : length ss ≡ 100
-  pub joins : (u : ℕ) (J : List Bool) → slice_index_or ss u None ≡ Some J → Joins (town_in p) (start_in p) u (marked J)

@@ -1,9 +1,14 @@
 -- Sets of extra drives for the crossings, with their prices. Assumes nothing: these are definitions.
 use Rattle.std.specs.Prelude.{◌≡◌, ℕ, ◌+◌, ◌<◌, ◌≤◌, Bool, true, false, not, vec_items}
 use Rattle.road.specs.Counts.{sum, Set}
+use Rattle.road.specs.Model.{marked}
+use Rattle.join.specs.declared.drives.PricedDrives.{PricedDrives}
 use Rattle.join.specs.declared.prices.Prices.{Prices}
+use Rattle.join.specs.declared.problem.Problem.{Problem}
+use Rattle.join.specs.Joins.{Joins, cost}
+use Rattle.join.specs.Amounts.{amount}
 use Rattle.join.specs.Weights.{end_of}
-use Rattle.join.specs.Problems.{town_in, costs_in}
+use Rattle.join.specs.Problems.{town_in, costs_in, start_in}
 use Rattle.join.specs.Drives.{drives_of, price_of}
 
 -- the set for each crossing, and its price
@@ -24,6 +29,11 @@ Near q k back = price_in q (end_of (town_in q.problem) k (not back)) ≤ price_i
 -- so at the streets below n
 abbrev pub AllNear : Prices → ℕ → Type 0
 AllNear q n = (k : ℕ) (back : Bool) → k < n → Near q k back
+
+-- a set that leads to crossing v, with what it costs
+pub record Led (p : Problem) (v : ℕ) (d : PricedDrives) : Type 0 where
+  pub joins : Joins (town_in p) (start_in p) v (marked d.drives)
+  pub costs : amount d.price ≡ cost (town_in p) (costs_in p) (marked d.drives)
 
 -- prices after an attempt to lower them: some are lower, or nothing is changed and N holds
 pub record Lowered (q q' : Prices) (done : Bool) (N : Type 0) : Type 0 where

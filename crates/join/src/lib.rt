@@ -2,6 +2,7 @@
 #![tactic(auto)]
 
 mod alone;
+mod alternate;
 mod border;
 mod carry;
 mod charged;
@@ -32,7 +33,6 @@ mod relax;
 mod sets;
 mod shift;
 mod solve;
-mod spread;
 mod stage;
 mod stars;
 mod start;

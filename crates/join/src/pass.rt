@@ -2,7 +2,6 @@
 ghost use Rattle.std.specs.Prelude.{[], IfOk, OnOk, MatchResult};
 ghost use Rattle.road.specs.Model.{marked};
 ghost use Rattle.join.specs.Problems.{town_in, costs_in, start_in, reached_in};
-ghost use Rattle.join.specs.First.{Fit};
 ghost use Rattle.join.specs.Prices.{price_in, AllNear};
 ghost use Rattle.join.specs.Potentials.{Cheaper};
 ghost use Rattle.join.specs.Turns.{Pass};
@@ -14,7 +13,7 @@ use crate::packing::CutPacking;
 use crate::partition::Classes;
 use crate::prices::Prices;
 use crate::tally::Tally;
-use crate::turn::{Found, Improved, Stage, Turn};
+use crate::turn::{Found, Stage, Turn};
 use crate::weighted::Weighted;
 use road::Leg;
 use std::alloc::{AllocError, Global};
@@ -75,17 +74,16 @@ impl Prices<'_, '_> {
         Ok(classes)
     }
 
-    // A pass: the stages that show that all prices are least, the last first, or a set that costs less than its price, and sets that may.
+    // A pass: the stages that show that all prices are least, the last first, or a set that costs less than its price.
     pub(crate) fn pass(
         &self,
         component: &mut Component,
         tally: &mut Tally,
         heap: Global,
-    ) -> Result<Result<Vec<Stage>, Improved>, AllocError>
+    ) -> Result<Result<Vec<Stage>, Found>, AllocError>
         requires { AllNear self.now self.now.problem.streets.town.now.count }
         ensures { IfOk result (λ r. MatchResult r (λ stages. ShowsLeast self.now stages.items)
-            (λ i. Cheaper (town_in self.now.problem) (start_in self.now.problem) (reached_in self.now.problem) (costs_in self.now.problem) (price_in self.now) i.found.crossing (marked i.found.drives)
-            × Fit self.now.problem i.others.items)) }
+            (λ f. Cheaper (town_in self.now.problem) (start_in self.now.problem) (reached_in self.now.problem) (costs_in self.now.problem) (price_in self.now) f.crossing (marked f.drives))) }
     {
         let mut level = self.level();
         let mut classes = self.classes(&level, heap)?;
@@ -95,15 +93,13 @@ impl Prices<'_, '_> {
         tally.add(stages.len());
         match found {
             Some(found) => {
-                let others = self.problem.spread(&level, &found, heap)?;
                 let packing = CutPacking {
                     prices: self,
                     classes: &classes,
                     stages: stages.as_slice(),
                     borders: borders.as_slice(),
                 };
-                let found = packing.descend(&mut level, found, component);
-                Ok(Err(Improved { found, others }))
+                Ok(Err(packing.descend(&mut level, found, component)))
             }
             None => {
                 stages.reverse();

@@ -75,12 +75,12 @@ impl Prices<'_, '_> {
         lower
     }
 
-    // Comes over streets until nothing is cheaper. `AllNear` is no invariant of the type: the next cheaper set ends it.
-    pub(crate) fn relax(&mut self)
+    // Comes over streets, and takes alternating walks, until nothing is cheaper. `AllNear` is no invariant of the type: the next cheaper set ends it.
+    pub(crate) fn relax(&mut self, walked: &mut [i64; 100])
         ensures problem { self.new.problem ≡ self.old.problem }
         ensures near { AllNear self.new self.new.problem.streets.town.now.count }
         ensures lower { all_prices self.new ≤ all_prices self.old }
     {
-        while self.sweep() {}
+        while self.sweep() || self.alternate(walked) {}
     }
 }

@@ -14,13 +14,21 @@ pub(crate) fn xor(a: &[bool; 300], b: &[bool; 300]) -> [bool; 300]
     from_fn(|k| a[k] != b[k])
 }
 
+// Puts street k into a set, or takes it out.
+pub(crate) fn toggle(a: &mut [bool; 300], k: usize)
+    requires { k < 300 }
+    ensures { marked a.new ≡ marked a.old ⊞ single k }
+{
+    a[k] = !a[k];
+}
+
 // A set with street k put in, or taken out.
 pub(crate) fn flip(a: &[bool; 300], k: usize) -> [bool; 300]
     requires { k < 300 }
     ensures { marked result ≡ marked a.now ⊞ single k }
 {
     let mut out = *a;
-    out[k] = !out[k];
+    toggle(&mut out, k);
     out
 }
 

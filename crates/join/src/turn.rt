@@ -11,13 +11,6 @@ pub(crate) struct Found {
     pub drives: [bool; 300],
 }
 
-// A set that costs less than its price, and for some crossings sets that may. That they lead to their crossings (`Fit`) stands in contracts.
-#[derive(Drop)]
-pub(crate) struct Improved {
-    pub found: Found,
-    pub others: Vec<Option<[bool; 300]>>,
-}
-
 // A class of crossings with what it is charged, and the crossing of the class whose potential is least.
 #[derive(Clone, Copy)]
 pub struct Stage {

@@ -1,0 +1,7 @@
+-- What the loop of `alternate` keeps.
+use Rattle.std.specs.Bool.{⊤}
+use Rattle.join.specs.Prices.{Lowered}
+use Rattle.join.proofs.prices.Prices.alternate.Given as goal
+
+abbrev pub invariant-loop-x : goal.invariant-loop-x
+invariant-loop-x l = Lowered l.initial.self l.self l.lower ⊤
