@@ -1,6 +1,5 @@
 -- The first sets of extra drives. Assumes nothing: these are definitions.
-use Rattle.std.specs.Prelude.{◌≡◌, ℕ, ◌<◌, Bool, true, List, length, Option, None, Some, slice_index_or}
-use Rattle.road.specs.Model.{marked}
+use Rattle.std.specs.Prelude.{◌≡◌, ℕ, ◌<◌, true, List, length}
 use Rattle.join.specs.declared.component.Component.{Component}
 use Rattle.join.specs.declared.problem.Problem.{Problem}
 use Rattle.join.specs.declared.drives.PricedDrives.{PricedDrives}

@@ -32,7 +32,9 @@ impl Problem<'_, '_> {
         requires led { Led self.now (from (town_in self.now) leg) drives.old }
         ensures { Led self.now (into (town_in self.now) leg) drives.new }
     {
-        drives.price = self.streets.cost_flipped(&drives.drives, leg.by, drives.price);
+        drives.price = self
+            .streets
+            .cost_flipped(&drives.drives, leg.by, drives.price);
         toggle(&mut drives.drives, leg.by);
     }
 }

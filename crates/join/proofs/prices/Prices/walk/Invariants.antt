@@ -1,5 +1,5 @@
 -- What the loop of `walk` keeps.
-use Rattle.std.proofs.Common.{◌≡◌, ◌<◌}
+use Rattle.std.proofs.Common.{◌<◌}
 use Rattle.std.specs.Bool.{⊤}
 use Rattle.road.specs.Roads.{from}
 use Rattle.join.specs.Problems.{town_in}
