@@ -1,8 +1,10 @@
 // Alternating walks: a set led on over one street, and then over streets of its own as long as there are any.
-ghost use Rattle.std.specs.Prelude.{◌≡◌, ◌<◌, ⊤, MatchOption};
+ghost use Rattle.std.specs.Prelude.{ℕ, true, false, ◌≡◌, ◌<◌, ⊤, MatchOption};
 ghost use Rattle.road.specs.Roads.{from, into};
+ghost use Rattle.road.specs.Counts.{cut};
 ghost use Rattle.road.specs.Model.{marked};
 ghost use Rattle.join.specs.Amounts.{amount};
+ghost use Rattle.join.specs.Joins.{single};
 ghost use Rattle.join.specs.Problems.{town_in};
 ghost use Rattle.join.specs.Prices.{extra_in, price_in, Led, Lowered};
 
@@ -13,10 +15,11 @@ use crate::sets::toggle;
 use road::Leg;
 
 impl Problem<'_, '_> {
-    // A leg from a crossing over a street of a set, but not over street k.
+    // A leg from crossing v to another over a street of a set, but not over street k.
     fn own_leg(&self, drives: &[bool; 300], v: usize, k: usize) -> Option<Leg>
         requires { v < self.now.streets.town.now.crossings }
-        ensures { MatchOption result ⊤ (λ leg. (leg.by < self.now.streets.town.now.count) × (from (town_in self.now) leg ≡ v)) }
+        ensures { MatchOption result ((j : ℕ) → cut (town_in self.now) (single v) j ≡ true → (j ≡ k → ⊥) → marked drives.now j ≡ false)
+            (λ leg. (leg.by < self.now.streets.town.now.count) × (from (town_in self.now) leg ≡ v) × (leg.by ≡ k → ⊥) × (marked drives.now leg.by ≡ true)) }
     {
         for leg in self.stars[v].as_slice() {
             if leg.by != k && drives[leg.by] {
