@@ -57,19 +57,6 @@ side_reached p k x y h back = p.twos k h
 pub lowered_none : (q : Prices) → Lowered q q false ⊤
 lowered_none q = record { problem = refl; less = λ e. absurd (both_ways false refl e); same = λ _. (refl, tt) }
 
--- prices after one attempt and another
-pub lowered_then : (q r s : Prices) (a b : Bool) → Lowered q r a ⊤ → Lowered r s b ⊤ → Lowered q s (a || b) ⊤
-lowered_then q r s true b h i = record {
-  problem = i.problem ∙ h.problem;
-  less = λ _. later b refl;
-  same = λ e. absurd (both_ways true e refl);
-}
-  where
-    later : (d : Bool) → b ≡ d → all_prices s < all_prices q
-    later true e = omega (arith, h.less refl, i.less e)
-    later false e = let is = (i.same e).0 in omega (arith, h.less refl, ap all_prices is)
-lowered_then q r s false b h i = let is = (h.same refl).0 in subst (λ r. Lowered r s b ⊤) is i
-
 -- the set for the crossing where a leg begins, as it is there
 pub led_begin : (q : Prices) (l : Leg) (d : PricedDrives) (x : ℕ) → l.by < q.problem.streets.town.now.count → x ≡ roads.from (town_in q.problem) l →
     marked d.drives ≡ extra_in q x → amount d.price ≡ price_in q x → Led q.problem (roads.from (town_in q.problem) l) d

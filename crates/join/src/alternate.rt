@@ -69,7 +69,7 @@ impl Prices<'_, '_> {
     }
 
     // Walks over a leg, and on over streets of the set that is led along, and takes each set that is cheaper; says whether any is.
-    fn walk(&mut self, first: Leg) -> bool
+    pub(crate) fn walk(&mut self, first: Leg) -> bool
         requires { first.by < self.old.problem.streets.town.now.count }
         ensures { Lowered self.old self.new result ⊤ }
     {
@@ -85,34 +85,6 @@ impl Prices<'_, '_> {
             match problem.own_leg(&led.drives, v, leg.by) {
                 Some(next) => leg = next,
                 None => break,
-            }
-        }
-        lower
-    }
-
-    // Walks from crossing x over each of its legs, and says whether a set is cheaper.
-    fn alternate_from(&mut self, x: usize) -> bool
-        requires { x < self.old.problem.streets.town.now.crossings }
-        ensures { Lowered self.old self.new result ⊤ }
-    {
-        let mut lower = false;
-        let problem = self.problem;
-        for leg in problem.stars[x].as_slice() {
-            lower |= self.walk(*leg);
-        }
-        lower
-    }
-
-    // Walks from each crossing whose price is another than when it was last walked from, and says whether a set is cheaper.
-    pub(crate) fn alternate(&mut self, walked: &mut [i64; 100]) -> bool
-        ensures { Lowered self.old self.new result ⊤ }
-    {
-        let mut lower = false;
-        for x in 0..self.problem.streets.town.crossings {
-            let price = self.price_for(x);
-            if walked[x] != price {
-                walked[x] = price;
-                lower |= self.alternate_from(x);
             }
         }
         lower

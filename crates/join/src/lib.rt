@@ -18,6 +18,7 @@ mod entry;
 mod first_prices;
 mod grow;
 mod laws;
+mod lead;
 mod least;
 mod level;
 mod look;

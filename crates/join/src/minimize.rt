@@ -7,6 +7,7 @@ ghost use Rattle.join.specs.Potentials.{Cheaper};
 ghost use Rattle.join.specs.Passes.{ShowsLeast};
 
 use crate::component::Component;
+use crate::lead::Visits;
 use crate::prices::Prices;
 use crate::tally::Tally;
 use crate::turn::{Found, Stage};
@@ -33,10 +34,12 @@ impl Prices<'_, '_> {
         ensures problem { OnOk result (self.new.problem ≡ self.old.problem) }
         ensures shown { IfOk result (λ stages. ShowsLeast self.new stages.items) }
     {
-        // No price is negative, so that each crossing is walked from at first.
-        let mut walked = [-1; 100];
+        let mut visits = Visits {
+            legs: [-1; 100],
+            walks: [-1; 100],
+        };
         loop {
-            self.relax(&mut walked);
+            self.relax(&mut visits);
             match self.pass(component, tally, heap)? {
                 Ok(stages) => return Ok(stages),
                 Err(found) => self.improve(found),

@@ -6,6 +6,7 @@ ghost use Rattle.join.specs.Problems.{town_in, costs_in, start_in};
 ghost use Rattle.join.specs.Prices.{extra_in, price_in, Lowered, Near, AllNear, all_prices};
 
 use crate::drives::PricedDrives;
+use crate::lead::{Lead, Visits};
 use crate::prices::Prices;
 use crate::sets::flip;
 use road::Leg;
@@ -48,7 +49,7 @@ impl Prices<'_, '_> {
     }
 
     // Comes to the end of a leg from its beginning where that is cheaper, and says whether it is.
-    fn relax_over(&mut self, leg: Leg) -> bool
+    pub(crate) fn relax_over(&mut self, leg: Leg) -> bool
         requires { leg.by < self.old.problem.streets.town.now.count }
         ensures { Lowered self.old self.new result (Near self.old leg.by leg.back) }
     {
@@ -75,12 +76,15 @@ impl Prices<'_, '_> {
         lower
     }
 
-    // Comes over streets, and takes alternating walks, until nothing is cheaper. `AllNear` is no invariant of the type: the next cheaper set ends it.
-    pub(crate) fn relax(&mut self, walked: &mut [i64; 100])
+    // Leads sets on until nothing is cheaper; a sweep comes last, since it shows it. `AllNear` is no invariant of the type: the next cheaper set ends it.
+    pub(crate) fn relax(&mut self, visits: &mut Visits)
         ensures problem { self.new.problem ≡ self.old.problem }
         ensures near { AllNear self.new self.new.problem.streets.town.now.count }
         ensures lower { all_prices self.new ≤ all_prices self.old }
     {
-        while self.sweep() || self.alternate(walked) {}
+        while self.lead_all(&mut visits.legs, Lead::Leg)
+            || self.lead_all(&mut visits.walks, Lead::Walk)
+            || self.sweep()
+        {}
     }
 }
