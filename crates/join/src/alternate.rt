@@ -30,7 +30,7 @@ impl Problem<'_, '_> {
     }
 
     // Leads a set on over a leg.
-    fn carry_over(&self, drives: &mut PricedDrives, leg: Leg)
+    fn lead_over(&self, drives: &mut PricedDrives, leg: Leg)
         requires below { leg.by < self.now.streets.town.now.count }
         requires led { Led self.now (from (town_in self.now) leg) drives.old }
         ensures { Led self.now (into (town_in self.now) leg) drives.new }
@@ -79,7 +79,7 @@ impl Prices<'_, '_> {
         let mut lower = false;
         // Each step but the first takes a street out of the set.
         for _ in 0..=300 {
-            problem.carry_over(&mut led, leg);
+            problem.lead_over(&mut led, leg);
             let v = problem.streets.town.end_of(leg);
             lower |= self.take(v, &led);
             match problem.own_leg(&led.drives, v, leg.by) {

@@ -1,4 +1,4 @@
--- The step of the proof of `carry_over` that is not found by search.
+-- The step of the proof of `lead_over` that is not found by search.
 use Rattle.std.proofs.Common.{sym, ap, ◌∙◌, subst, arith, rules, w64}
 use Rattle.std.proofs.lemmas.Int.{to_z-of_z}
 use Rattle.road.specs.Roads.{into}
@@ -8,7 +8,7 @@ use Rattle.join.specs.Joins.{Joins, cost}
 use Rattle.join.specs.Amounts.{amount}
 use Rattle.join.specs.Problems.{town_in, costs_in, start_in}
 use Rattle.join.proofs.Relaxing.{carried}
-use Rattle.join.proofs.problem.Problem.carry_over.Goals as goal
+use Rattle.join.proofs.problem.Problem.lead_over.Goals as goal
 
 pub returns : goal.returns
 returns c =
