@@ -8,7 +8,6 @@ ghost use Rattle.join.specs.Circuits.{outside as differ, Second, Lone, AllLone, 
 use crate::circuit::{Circuit, Exit};
 use crate::component::Component;
 use crate::cut::Cut;
-use crate::sets::xor;
 use crate::subgraph::Subgraph;
 use std::array::from_fn;
 
@@ -27,20 +26,20 @@ impl Cut<'_, '_> {
         }
     }
 
-    // Whether street k has both ends outside.
-    fn leaves_out(&self, k: usize) -> bool
-        ensures { result ≡ (not (side_of self.now (one (ground self.now) k)) && not (side_of self.now (two (ground self.now) k))) }
+    // Whether two sets differ in street k, and it has both ends outside.
+    fn differs_outside(&self, drives: &[bool; 300], base: &[bool; 300], k: usize) -> bool
+        requires { k < 300 }
+        ensures { result ≡ differ (ground self.now) (side_of self.now) (marked drives.now) (marked base.now) k }
     {
         let street = self.town.street(k);
-        !self.marks[street.one] && !self.marks[street.two]
+        drives[k] != base[k] && !self.marks[street.one] && !self.marks[street.two]
     }
 
     // The streets in which two sets differ, with both ends outside.
     fn outside(&self, drives: &[bool; 300], base: &[bool; 300]) -> [bool; 300]
-        ensures { (k : ℕ) → k < self.now.town.now.count → marked result k ≡ differ (ground self.now) (side_of self.now) (marked drives.now) (marked base.now) k }
+        ensures { (k : ℕ) → k < 300 → marked result k ≡ differ (ground self.now) (side_of self.now) (marked drives.now) (marked base.now) k }
     {
-        let apart = xor(drives, base);
-        from_fn(|k| apart[k] && self.leaves_out(k))
+        from_fn(|k| self.differs_outside(drives, base, k))
     }
 
     // Another street of a set that is cut, whose end outside is marked.
