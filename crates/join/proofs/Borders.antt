@@ -15,7 +15,7 @@ use Rattle.road.specs.Model.{model}
 use Rattle.road.proofs.Sums.{sum_none, sum_point}
 use Rattle.join.specs.Joins.{◌⊞◌, single, cost, outs}
 use Rattle.join.specs.Odd.{streets_of}
-use Rattle.join.specs.Borders.{street_at, LeadsOut, Apart, Bordered}
+use Rattle.join.specs.Borders.{street_at, LeadsOut, Apart, Bordered, BorderedBelow}
 use Rattle.join.specs.Weights.{outer}
 use Rattle.join.proofs.Pairing.{streets_none, streets_push}
 use Rattle.join.proofs.StreetSets.{cost_bound}
@@ -41,13 +41,7 @@ module _ (ls : List Leg) (i : ℕ) (h : i < length ls) where
       let lt : r.0 < i = omega (arith, r.1, length-take-le i ls (omega arith)) in
       apart r.0 i lt h (sym (ap (λ (l : Leg). l.by) (get_or-take i ls r.0 no_leg lt)) ∙ r.2))
 
--- so for the streets below n
-pub record BorderedBelow (t : Town) (Z : Set) (n : ℕ) (ls : List Leg) : Type 0 where
-  pub each : (i : ℕ) → i < length ls → LeadsOut t Z (get_or ls i no_leg)
-  pub below : (i : ℕ) → i < length ls → street_at ls i < n
-  pub apart : Apart ls
-  pub all : (k : ℕ) → streets_of ls k ≡ ltb k n && cut t Z k
-
+-- no street yet
 pub bordered_none : (t : Town) (Z : Set) → BorderedBelow t Z 0 []
 bordered_none t Z = record {
   each = λ i h. absurd (omega arith);

@@ -1,17 +1,19 @@
 -- One more crossing is come to. Assumes nothing.
-use Rattle.std.proofs.Common.{◌≡◌, ℕ, ◌<◌, Bool, true, false, eqb, List, [], set, replicate, vec_items, sym, ap, ◌∙◌, subst, ⊎_elim, arith}
+use Rattle.std.proofs.Common.{◌≡◌, ℕ, ◌+◌, ◌<◌, Bool, true, false, ◌||◌, eqb, List, [], set, replicate, ℤ, pos, ◌≤ℤ◌, vec_items, sym, refl, ap, ◌∙◌, subst, ⊎_elim, arith}
 use Rattle.std.proofs.lemmas.List.{length-replicate, get_or-set_same, get_or-set_other}
 use Rattle.std.proofs.lemmas.Bool.{cases_eq, both_ways, eqb-true}
 use Rattle.road.specs.Roads.{Town}
 use Rattle.road.specs.Counts.{◌⊕◌, size, Set, cut}
 use Rattle.road.specs.Model.{marked}
+use Rattle.road.specs.Growth.{Tried, unmarked}
 use Rattle.road.proofs.Parity.{xor_true}
 use Rattle.join.specs.declared.component.Component.{Component}
+use Rattle.join.specs.declared.weighted.Weighted.{Weighted}
 use Rattle.join.specs.Joins.{◌⊞◌, single, Joins, at}
 use Rattle.join.specs.Exchange.{Exit}
 use Rattle.join.specs.Amounts.{row, AllEmpty}
-use Rattle.join.specs.Weights.{inner, outer}
-use Rattle.join.specs.Components.{crossings_in, path_in, Grown}
+use Rattle.join.specs.Weights.{town_of, lengths_of, inner, outer}
+use Rattle.join.specs.Components.{crossings_in, path_in, Grown, ClosedWithin}
 use Rattle.join.proofs.Joins.{join_on, join_none, side_join}
 use Rattle.join.proofs.Stages.{exit_is}
 use Rattle.join.proofs.StreetSets.{marked_none}
@@ -77,3 +79,23 @@ grown_start t A c d J s h eJ ef em ep =
 -- so where no crossing has a way yet
 pub grown_alone : (t : Town) (A : Set) (d : Component) (s : ℕ) → s < 100 → d.from ≡ s → d.marks ≡ set (replicate 100 false) s true → AllEmpty (vec_items d.path) 100 → Grown t A d
 grown_alone t A d s h ef em e = grown_from t A d s h ef em (e.none s)
+
+-- two attempts, one after the other
+pub tried_on : {C D E : Type 0} (ms ms1 ms2 : List Bool) (a b : Bool) → Tried ms ms1 a C → Tried ms1 ms2 b D → (ms2 ≡ ms1 → C → D → E) → Tried ms ms2 (a || b) E
+tried_on ms ms1 ms2 true true p q f = record { less = λ _. omega (arith, p.less refl, q.less refl); same = λ e. absurd (both_ways true e refl) }
+tried_on ms ms1 ms2 true false p q f = record {
+  less = λ _. subst (λ m. unmarked m < unmarked ms) (sym (q.same refl).0) (p.less refl);
+  same = λ e. absurd (both_ways true e refl);
+}
+tried_on ms ms1 ms2 false true p q f = record {
+  less = λ _. subst (λ m. unmarked ms2 < unmarked m) (p.same refl).0 (q.less refl);
+  same = λ e. absurd (both_ways true e refl);
+}
+tried_on ms ms1 ms2 false false p q f = record {
+  less = λ e. absurd (both_ways false refl e);
+  same = λ _. ((q.same refl).0 ∙ (p.same refl).0, f (q.same refl).0 (p.same refl).1 (q.same refl).1);
+}
+
+-- a street more
+pub within_more : (w : Weighted) (bound : ℤ) (ms : List Bool) (k : ℕ) → ClosedWithin w bound ms k → (pos (lengths_of w k) ≤ℤ bound → cut (town_of w) (marked ms) k ≡ false) → ClosedWithin w bound ms (k + 1)
+within_more w bound ms k c here = λ j lt le. ⊎_elim (λ e. rw e (here (subst (λ i. pos (lengths_of w i) ≤ℤ bound) e le))) (λ ne. c j (omega arith) le) (cases_eq j k)

@@ -1,9 +1,8 @@
 -- The streets that a set of crossings cuts, star by star. Assumes nothing.
-use Rattle.std.proofs.Common.{◌≡◌, ℕ, ◌+◌, ◌<◌, ◌≤◌, Bool, true, false, not, ◌&&◌, ◌||◌, eqb, ltb, List, [], ◌∷◌, ◌++◌, length, get_or, set, replicate, take, vec_items, sym, refl, ap, ◌∙◌, subst, ap₂, ⊎_elim, arith}
+use Rattle.std.proofs.Common.{◌≡◌, ℕ, ◌+◌, ◌<◌, ◌≤◌, Bool, true, false, not, ◌&&◌, ◌||◌, eqb, ltb, List, [], ◌∷◌, ◌++◌, length, get_or, take, vec_items, sym, refl, ap, ◌∙◌, subst, ap₂, ⊎_elim, arith}
 use mathlib.Core.Bool.{and-false}
-use mathlib.Core.Path.{fun_ext}
 use Rattle.std.specs.Global.{Vec}
-use Rattle.std.proofs.lemmas.List.{take_all, length_push, length-replicate, get_or_append_left, get_or_push, get_or-set_same, get_or-set_other}
+use Rattle.std.proofs.lemmas.List.{take_all, length_push, get_or_append_left, get_or_push}
 use Rattle.std.proofs.lemmas.Bool.{cases_eq, cases_lt, both_ways, eqb-true, eq-eqb, ne_eqb, lt-ltb, le-ltb, ltb-true}
 use Rattle.road.specs.declared.leg.Leg.{Leg}
 use Rattle.road.specs.declared.town.Town as town
@@ -11,7 +10,7 @@ use Rattle.road.specs.Roads.{pick, Town, from, into}
 use Rattle.road.specs.Counts.{◌⊕◌, one, two, Set, cut}
 use Rattle.road.proofs.Parity.{xor_false}
 use Rattle.road.specs.Laws.{no_leg}
-use Rattle.road.specs.Model.{model, marked}
+use Rattle.road.specs.Model.{model}
 use Rattle.join.specs.Joins.{single}
 use Rattle.join.specs.Odd.{streets_of}
 use Rattle.join.specs.Weights.{inner, outer}
@@ -19,28 +18,8 @@ use Rattle.join.specs.Borders.{street_at, LeadsOut, Apart, Bordered, BorderedFro
 use Rattle.join.proofs.Borders.{taken_new, taken_more, leads_outer}
 use Rattle.road.proofs.Models.{size_model}
 use Rattle.join.proofs.Pairing.{streets_none, streets_push, inside_model}
-use Rattle.join.proofs.StreetSets.{cut_past, marked_none}
+use Rattle.join.proofs.StreetSets.{cut_past}
 use Rattle.join.proofs.Writing.{each_push}
-
--- the marks of one crossing
-pub marked_only : (v : ℕ) → v < 100 → marked (set (replicate 100 false) v true) ≡ single v
-marked_only v h = fun_ext (λ u. ⊎_elim
-    (λ e. rw e (get_or-set_same (replicate 100 false) v true false (omega (arith, length-replicate 100 false)) ∙ sym (eq-eqb v v refl)))
-    (λ ne. get_or-set_other (replicate 100 false) v u true false ne ∙ ap (λ Z. Z u) (marked_none 100) ∙ sym (ne_eqb u v ne))
-    (cases_eq u v))
-
--- a star more
-pub stars_none : (t : Town) → Stars t [] 0
-stars_none t = record { long = refl; star = λ v ls h. absurd (omega arith) }
-
-pub stars_push : (t : Town) (n : ℕ) (rows : List (Vec Leg)) (b : Vec Leg) → Stars t rows n → Bordered t (single n) (vec_items b) → Stars t (rows ++ b ∷ []) (n + 1)
-stars_push t n rows b s new = record {
-  long = omega (arith, length_push rows b, s.long);
-  star = λ v ls h is. ⊎_elim
-      (λ e. subst (λ u. Bordered t (single u) (vec_items ls)) (sym e) (subst (λ y. Bordered t (single n) (vec_items y)) (sym (is ∙ get_or_push rows b ls v (omega (arith, s.long)))) new))
-      (λ ne. s.star v ls (omega arith) (is ∙ get_or_append_left rows (b ∷ []) ls v (omega (arith, s.long))))
-      (cases_eq v n);
-}
 
 xor_true_left : (b : Bool) → true ⊕ b ≡ true → b ≡ false
 xor_true_left true e = sym e

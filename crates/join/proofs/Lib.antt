@@ -21,6 +21,7 @@ pub mod Relaxing
 pub mod Pairing
 pub mod Borders
 pub mod Incidence
+pub mod Gathering
 pub mod Uniting
 pub mod Stages
 pub mod Leasts

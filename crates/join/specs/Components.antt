@@ -1,11 +1,13 @@
 -- What can be come to over the streets of a set, and the ways there. Assumes nothing: these are definitions.
-use Rattle.std.specs.Prelude.{◌≡◌, ℕ, ◌<◌, Bool, true, false, List, replicate, vec_items}
+use Rattle.std.specs.Prelude.{◌≡◌, ℕ, ◌<◌, Bool, true, false, List, replicate, ℤ, pos, ◌≤ℤ◌, vec_items}
 use Rattle.road.specs.Roads.{Town}
 use Rattle.road.specs.Counts.{size, Set, cut}
 use Rattle.road.specs.Model.{marked}
 use Rattle.join.specs.declared.component.Component.{Component}
+use Rattle.join.specs.declared.weighted.Weighted.{Weighted}
 use Rattle.join.specs.Joins.{Joins, at}
 use Rattle.join.specs.Amounts.{row}
+use Rattle.join.specs.Weights.{town_of, lengths_of}
 
 -- the marked crossings, and the way to each
 abbrev pub crossings_in : Component → Set
@@ -27,6 +29,10 @@ Closed t A ms n = (k : ℕ) → k < n → A k ≡ true → cut t (marked ms) k �
 -- all streets that a town may have
 abbrev pub any_street : Set
 any_street = marked (replicate 300 true)
+
+-- no street of those, no longer than a bound, leads on
+abbrev pub ClosedWithin : Weighted → ℤ → List Bool → ℕ → Type 0
+ClosedWithin w bound ms n = (k : ℕ) → k < n → pos (lengths_of w k) ≤ℤ bound → cut (town_of w) (marked ms) k ≡ false
 
 -- all crossings that can be come to from one, each with a way
 pub record Spans (t : Town) (c : Component) : Type 0 where

@@ -1,13 +1,10 @@
 // The streets that lead out of a set of crossings.
-ghost use Rattle.std.specs.Prelude.{◌≡◌, ◌<◌, ◌&&◌, IfOk};
+ghost use Rattle.std.specs.Prelude.{◌≡◌, ◌<◌, ◌&&◌};
 ghost use Rattle.road.specs.Counts.{cut as cuts};
 ghost use Rattle.road.specs.Model.{marked};
-ghost use Rattle.join.specs.Borders.{Bordered};
 ghost use Rattle.join.specs.Weights.{ground, side_of, inner, outer};
 
 use crate::cut::Cut;
-use road::Leg;
-use std::alloc::{AllocError, Global};
 
 impl Cut<'_, '_> {
     // Whether street k has just one end in the set.
@@ -41,18 +38,5 @@ impl Cut<'_, '_> {
         ensures below { result < 100 }
     {
         self.town.end_of(self.town.leg_out(k, self.marks))
-    }
-
-    // The streets that are cut, each as a leg that leads out.
-    pub(crate) fn legs_out(&self, heap: Global) -> Result<Vec<Leg>, AllocError>
-        ensures { IfOk result (λ legs. Bordered (ground self.now) (side_of self.now) legs.items) }
-    {
-        let mut legs = Vec::new(heap);
-        for k in 0..self.town.count {
-            if self.has(k) {
-                legs.push(self.town.leg_out(k, self.marks))?;
-            }
-        }
-        Ok(legs)
     }
 }

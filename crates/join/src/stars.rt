@@ -1,26 +1,50 @@
 // The star of each crossing, and with stars the streets that a set of crossings cuts.
-ghost use Rattle.std.specs.Prelude.{◌≡◌, ◌+◌, ◌<◌, true, IfOk, OnOk};
+ghost use Rattle.std.specs.Prelude.{◌≡◌, ◌+◌, ◌<◌, true, length, IfOk, OnOk};
 ghost use Rattle.road.specs.Model.{model, marked};
-ghost use Rattle.join.specs.Borders.{Bordered, BorderedFrom, Stars};
+ghost use Rattle.join.specs.Borders.{Bordered, BorderedFrom, Stars, StarsBelow, Pushed};
 ghost use Rattle.join.specs.Problems.{town_in};
 
-use crate::cut::Cut;
 use crate::problem::Problem;
-use crate::sets::only;
 use road::{Leg, Town};
 use std::alloc::{AllocError, Global};
+
+// No legs yet, for each crossing.
+fn bare_stars(town: &Town, heap: Global) -> Result<Vec<Vec<Leg>>, AllocError>
+    ensures { IfOk result (λ stars. StarsBelow (model town.now) 0 stars.items town.now.crossings) }
+{
+    (0..town.crossings).map(|_| Vec::new(heap)).collect(heap)
+}
+
+// Adds a leg to the star of crossing v.
+fn add_leg(stars: &mut Vec<Vec<Leg>>, v: usize, leg: Leg) -> Result<(), AllocError>
+    requires { v < length stars.old.items }
+    ensures { OnOk result (Pushed stars.old.items v leg stars.new.items) }
+{
+    stars[v].push(leg)?;
+    Ok(())
+}
+
+// Adds street k to the stars of its ends, unless it leads back to where it begins.
+fn add_street(town: &Town, k: usize, stars: &mut Vec<Vec<Leg>>) -> Result<(), AllocError>
+    requires below { k < town.now.count }
+    requires before { StarsBelow (model town.now) k stars.old.items town.now.crossings }
+    ensures { OnOk result (StarsBelow (model town.now) (k + 1) stars.new.items town.now.crossings) }
+{
+    let street = town.street(k);
+    if street.one == street.two {
+        return Ok(());
+    }
+    add_leg(stars, street.one, Leg { by: k, back: false })?;
+    add_leg(stars, street.two, Leg { by: k, back: true })
+}
 
 // For each crossing the legs that begin there, but for those that lead back to it.
 pub(crate) fn stars(town: &Town, heap: Global) -> Result<Vec<Vec<Leg>>, AllocError>
     ensures { IfOk result (λ stars. Stars (model town.now) stars.items town.now.crossings) }
 {
-    let mut stars = Vec::with_capacity(heap, town.crossings)?;
-    for v in 0..town.crossings {
-        let star = Cut {
-            town,
-            marks: &only(v),
-        };
-        stars.push(star.legs_out(heap)?)?;
+    let mut stars = bare_stars(town, heap)?;
+    for k in 0..town.count {
+        add_street(town, k, &mut stars)?;
     }
     Ok(stars)
 }

@@ -1,10 +1,10 @@
-// A spanning tree: all that can be come to from a crossing, each time over a shortest street that leads on.
-ghost use Rattle.std.specs.Prelude.{◌≡◌, ℕ, ◌<◌, true, false, IfOk, MatchOption};
+// A spanning tree: all that can be come to from a crossing, over short streets before longer ones.
+ghost use Rattle.std.specs.Prelude.{◌≡◌, ℕ, ◌<◌, ◌≤◌, true, false, IfOk, MatchOption};
 ghost use Rattle.road.specs.Roads.{Town as AnyTown};
 ghost use Rattle.road.specs.Counts.{Set, cut as cuts};
 ghost use Rattle.join.specs.Weights.{town_of};
-ghost use Rattle.road.specs.Growth.{Tried};
-ghost use Rattle.join.specs.Components.{any_street, crossings_in, Grown, Spans};
+ghost use Rattle.road.specs.Growth.{Tried, unmarked};
+ghost use Rattle.join.specs.Components.{any_street, crossings_in, Grown, ClosedWithin, Spans};
 
 use crate::component::Component;
 use crate::cut::Cut;
@@ -51,7 +51,38 @@ impl Component {
             .map(|(k, _)| k)
     }
 
-    // Comes over a shortest street that leads on, and says whether there is one.
+    // Comes over each street that leads on and is no longer than a bound, and says whether there was one.
+    fn grow_within(&mut self, streets: &Weighted, bound: i64) -> bool
+        requires { Grown (town_of streets.now) any_street self.old }
+        ensures grown { Grown (town_of streets.now) any_street self.new }
+        ensures from { self.new.from ≡ self.old.from }
+        ensures tried { Tried self.old.marks self.new.marks result (ClosedWithin streets.now bound self.new.marks streets.now.town.now.count) }
+    {
+        let graph = Subgraph {
+            town: streets.town,
+            set: &[true; 300],
+        };
+        let mut more = false;
+        for k in 0..streets.town.count {
+            if streets.length(k) <= bound {
+                more |= self.grow_over(&graph, k);
+            }
+        }
+        more
+    }
+
+    // Comes to all that can be come to over streets no longer than a bound.
+    fn explore_within(&mut self, streets: &Weighted, bound: i64)
+        requires { Grown (town_of streets.now) any_street self.old }
+        ensures grown { Grown (town_of streets.now) any_street self.new }
+        ensures from { self.new.from ≡ self.old.from }
+        ensures more { unmarked self.new.marks ≤ unmarked self.old.marks }
+        ensures closed { ClosedWithin streets.now bound self.new.marks streets.now.town.now.count }
+    {
+        while self.grow_within(streets, bound) {}
+    }
+
+    // Comes over a shortest street that leads on, then to all that can be come to over streets no more than half longer, and says whether there is one.
     fn grow_on(&mut self, streets: &Weighted) -> bool
         requires { Grown (town_of streets.now) any_street self.old }
         ensures grown { Grown (town_of streets.now) any_street self.new }
@@ -62,10 +93,12 @@ impl Component {
             town: streets.town,
             set: &[true; 300],
         };
-        match self.shortest_on(streets) {
-            Some(k) => self.grow_over(&graph, k),
-            None => false,
-        }
+        let Some(k) = self.shortest_on(streets) else {
+            return false;
+        };
+        let grown = self.grow_over(&graph, k);
+        self.explore_within(streets, streets.length(k) * 3 / 2);
+        grown
     }
 
     // A tree from a crossing to all that can be come to from there.

@@ -1,8 +1,8 @@
 -- What the loop of `stars` keeps.
 use Rattle.std.proofs.Common.{vec_items}
 use Rattle.road.specs.Model.{model}
-use Rattle.join.specs.Borders.{Stars}
+use Rattle.join.specs.Borders.{StarsBelow}
 use Rattle.join.proofs.stars.stars.Given as goal
 
-abbrev pub invariant-loop-v : goal.invariant-loop-v
-invariant-loop-v l = Stars (model l.town) (vec_items l.stars) l.v
+abbrev pub invariant-loop-k : goal.invariant-loop-k
+invariant-loop-k l = StarsBelow (model l.town) l.k (vec_items l.stars) l.town.crossings
