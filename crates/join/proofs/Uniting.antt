@@ -3,15 +3,17 @@ use Rattle.std.proofs.Common.{◌≡◌, ℕ, ◌+◌, ◌<◌, Bool, true, ◌&
 use mathlib.Core.Path.{fun_ext}
 use Rattle.std.proofs.lemmas.List.{get_or-set_same, get_or-set_other}
 use Rattle.std.proofs.lemmas.Bool.{cases_eq, lt-ltb, le-ltb, and_parts, eqb-true, ltb-true, eq-eqb, both_ways}
-use Rattle.road.specs.Roads.{Town, pick}
-use Rattle.road.specs.Counts.{◌⊕◌, size, one, two, Set, cut, Side, forth}
+use Rattle.road.specs.declared.leg.Leg.{Leg}
+use Rattle.road.specs.Roads.{Town, pick, from, into}
+use Rattle.road.specs.Counts.{◌⊕◌, size, one, two, Set, cut, Side, forth, back}
 use Rattle.road.specs.Model.{marked}
 use Rattle.road.proofs.Parity.{xor_true, xor_self}
+use Rattle.road.proofs.Cuts.{leg_side}
 use Rattle.join.specs.declared.partition.Classes.{Classes}
 use Rattle.join.specs.Joins.{◌⊞◌, single, Joins, at, Zero, Class}
 use Rattle.join.specs.Amounts.{row}
 use Rattle.join.specs.Classes.{label_in, way_in, Classed, Merged, Absorbed, Kept, class_in}
-use Rattle.join.proofs.Joins.{join_on, join_back, side_join, xor_meet}
+use Rattle.join.proofs.Joins.{join_on, join_back, join_uncut, side_join, xor_meet}
 use Rattle.join.proofs.StreetSets.{marked_ext}
 use Rattle.join.proofs.Labels.{pick_same, pick_other, relabelled, label_kept}
 
@@ -118,12 +120,26 @@ module _ (from to : ℕ) (link : Set) (c d : Classes) (p : Absorbed from to link
         (cases_eq (label_in c u) from);
   }
 
+-- a leg goes over its street from one end to the other
+pub leg_ends : (t : Town) (l : Leg) (k x y : ℕ) → l.by ≡ k → x ≡ from t l → y ≡ into t l → Side t k x y
+unfolding from into
+leg_ends t l k x y e ex ey = rw (ex, ey, ← e) (leg_side t l.by l.back)
+
+-- what is the same at the ends of a street, seen from either
+pub ends_same : (t : Town) (k x y : ℕ) (f : ℕ → ℕ) → Side t k x y → f x ≡ f y → f (one t k) ≡ f (two t k)
+ends_same t k x y f forth e = e
+ends_same t k x y f back e = sym e
+
+-- labels are crossings, since no street leads to another number
+pub label_small : (t : Town) (l : ℕ → ℕ) (c : Classes) (v : ℕ) → ((k : ℕ) → (one t k < 100) × (two t k < 100)) → Classed t l c → v < 100 → label_in c v < 100
+label_small t l c v ends r h =
+    let uncut = λ (k : ℕ) (_ : k < size t) (_ : way_in c v k ≡ true). ap₂ (λ a b. a ⊕ b) (lt-ltb (one t k) 100 (ends k).0) (lt-ltb (two t k) 100 (ends k).1) in
+    ltb-true (label_in c v) 100 (join_uncut t (label_in c v) v (way_in c v) (λ u. ltb u 100) (r.leads v h) uncut ∙ lt-ltb v 100 h)
+
 -- the way from the label of x over the street k and from y back to its label
-pub link_is : (t : Town) (l : ℕ → ℕ) (c : Classes) (k x y : ℕ) (H Q : Set) → Classed t l c → k < size t → l k ≡ 0 →
-    x ≡ one t k → y ≡ two t k → x < 100 → y < 100 → H ≡ way_in c x ⊞ single k → Q ≡ H ⊞ way_in c y →
-    Joins t (at (label_in c x)) (label_in c y) Q × Zero t l Q
-link_is t l c k x y H Q r h z ex ey hx hy eH eQ =
-    let side : Side t k x y = subst (λ v. Side t k v y) (sym ex) (subst (λ v. Side t k (one t k) v) (sym ey) forth) in
+pub link_is : (t : Town) (l : ℕ → ℕ) (c : Classes) (k x y : ℕ) (H Q : Set) → Classed t l c → k < size t → l k ≡ 0 → Side t k x y →
+    x < 100 → y < 100 → H ≡ way_in c x ⊞ single k → Q ≡ H ⊞ way_in c y → Joins t (at (label_in c x)) (label_in c y) Q × Zero t l Q
+link_is t l c k x y H Q r h z side hx hy eH eQ =
     let q : Q ≡ (way_in c x ⊞ single k) ⊞ way_in c y = eQ ∙ ap (λ J. J ⊞ way_in c y) eH in
     let a = join_on t (at (label_in c x)) x y (way_in c x) (single k) (r.leads x hx) (side_join t k x y h side) in (
       rw q (join_on t (at (label_in c x)) y (label_in c y) (way_in c x ⊞ single k) (way_in c y) a (join_back t (label_in c y) y (way_in c y) (r.leads y hy))),

@@ -22,6 +22,7 @@ impl Classes {
         Ok(Classes {
             label: own_labels(),
             way: no_ways(heap)?,
+            size: [1; 100],
         })
     }
 }

@@ -27,8 +27,10 @@ impl Classes {
 
     // Brings the crossings of one class into another, to which the link leads.
     fn absorb(&mut self, from: usize, to: usize, link: &[bool; 300])
+        requires { (from < 100) × (to < 100) }
         ensures { Absorbed from to (marked link.now) self.old self.new 100 }
     {
+        self.size[to] = self.size[to].saturating_add(self.size[from]);
         // By number, since of labels that `iter_mut` zips with ways nothing is known after the loop.
         for v in 0..100 {
             if self.label[v] == from {
@@ -38,7 +40,26 @@ impl Classes {
         }
     }
 
-    // Merges the classes of the ends of street k if it has no length.
+    // How many crossings are in the class of v.
+    fn size_of(&self, v: usize) -> usize
+        requires { (v < 100) × (label_in self.now v < 100) }
+    {
+        self.size[self.label[v]]
+    }
+
+    // The leg over street k to its end in the smaller class.
+    fn leg_to_smaller(&self, streets: &Weighted, k: usize) -> Leg
+        requires { Classed (town_of streets.now) (lengths_of streets.now) self.now }
+        ensures { result.by ≡ k }
+    {
+        let street = streets.town.street(k);
+        Leg {
+            by: k,
+            back: self.size_of(street.one) < self.size_of(street.two),
+        }
+    }
+
+    // Merges the classes of the ends of street k if it has no length: the smaller one comes into the larger one.
     fn merge_over(&mut self, streets: &Weighted, k: usize)
         requires classed { Classed (town_of streets.now) (lengths_of streets.now) self.old }
         requires below { k < streets.now.town.now.count }
@@ -50,14 +71,16 @@ impl Classes {
         if !streets.is_free(k) {
             return;
         }
-        let street = streets.town.street(k);
-        let to = self.label[street.one];
-        let from = self.label[street.two];
+        let leg = self.leg_to_smaller(streets, k);
+        let x = streets.town.begin_of(leg);
+        let y = streets.town.end_of(leg);
+        let to = self.label[x];
+        let from = self.label[y];
         if from == to {
             return;
         }
-        let there = flip(self.way_to(street.one), k);
-        let link = xor(&there, self.way_to(street.two));
+        let there = flip(self.way_to(x), k);
+        let link = xor(&there, self.way_to(y));
         self.absorb(from, to, &link);
     }
 

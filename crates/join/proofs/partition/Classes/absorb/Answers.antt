@@ -11,8 +11,8 @@ loop-v-preserved c =
     let link = marked c.args.link.now in
     elim c.if-self-v.branch [
       | then-self-v w ↦
-          rw w.self-is (absorbed_more c.args.from c.args.to link c.args.self.now c.loop-v.self c.loop-v.v c.loop-v.invariant w.xor.result
+          rw w.self-is (absorbed_more c.args.from c.args.to link _ c.loop-v.self c.loop-v.v c.loop-v.invariant w.xor.result
           c.loop-v-test.true w.if-self-v.true (w.xor.ensures ∙ ap (λ J. link ⊞ J) w.way_to.ensures) _ refl refl)
       | else-self-v w ↦
-          rw w.self-is (absorbed_past c.args.from c.args.to link c.args.self.now c.loop-v.self c.loop-v.v c.loop-v.invariant w.if-self-v.false)
+          rw w.self-is (absorbed_past c.args.from c.args.to link _ c.loop-v.self c.loop-v.v c.loop-v.invariant w.if-self-v.false)
     ]
