@@ -69,7 +69,7 @@ module _ (t : Town) (T : Set → Bool) (In : Set) (l f : ℕ → ℕ) (K : ℕ �
 
     -- least joins are at a stage where the exchange can be made
     pub stage : Stage t T l f b Z e (K b)
-    stage = record { joins = m.joins b ib; costs = m.costs b ib; long = c.long; room = room; clear = clear }
+    stage = record { joins = m.joins b ib; low = omega (arith, m.costs b ib); long = c.long; room = room; clear = clear }
 
     -- no street is charged with more than its length
     pub fits : (k : ℕ) → k < size t → cut t Z k ≡ true → e ≤ l k

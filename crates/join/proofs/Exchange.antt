@@ -1,4 +1,4 @@
--- The exchange, as a program makes it at one stage. B is a set for b that costs g b; no set need be least. A circuit through two streets of J
+-- The exchange, as a program makes it at one stage. B is a set for b that costs no more than g b; no set need be least. A circuit through two streets of J
 -- out of the class Z of b either shows that g is too high at a crossing outside, or makes J cheaper. Assumes nothing.
 use Rattle.std.proofs.Common.{◌≡◌, ℕ, ◌+◌, ◌*◌, ◌<◌, ◌≤◌, Bool, true, false, not, eqb, ◌⊎◌, sym, refl, ap, ◌∙◌, ap₂, inl, inr, ⊎_elim, arith}
 use Rattle.std.proofs.lemmas.Bool.Decides.{nat_tests}
@@ -118,7 +118,7 @@ module _ (t : Town) (T : Set → Bool) (l g : ℕ → ℕ) (b : ℕ) (Z : Set) (
             let d = p.exit₁ in
             let r = s.room p.k₁ p.x₁ p.y₁ d.below d.side d.inside d.outside in
             let o = over_cost t T l b Z (B ⊞ C) p.Q₁ p.k₁ p.x₁ p.y₁ s.long exit p.inner₁ p.zero₁ in
-            omega (arith, cost_swap t l J B C swapped, s.costs)
+            omega (arith, cost_swap t l J B C swapped, s.low)
 
     -- the exchange by a given circuit
     pub exchange_from : Outcome t T l g Z e B v J p.k₁ p.y₁ p.Q₁ (circuit p.k₁ p.k₂ p.W p.Q₁ p.Q₂)

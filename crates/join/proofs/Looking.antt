@@ -65,10 +65,15 @@ module _ (q : Prices) (v : Level) (c : Classes) (b : ℕ) (s : Pass q v) (cs : C
       ends_y : k < size t → Side t k x y → In y ≡ true
       ends_y h' sd = s.level.ends k y x h' (side_turn t k x y sd)
 
-  -- and it has none: no potential is left
-  pub inside_done : potential_at v b ≤ cost (town_in q.problem) (lengths_at v) (extra_in q b) → ((k : ℕ) → k < size (town_in q.problem) → cut (town_in q.problem) (class_in c b) k ≡ false) →
-      Zero (town_in q.problem) (lengths_at v) (extra_in q b) → (u : ℕ) → reached_in q.problem u ≡ true → potential_at v u ≡ 0
-  inside_done high none z = stages.done t T In l g K s.level b (class_in c b) the_class low high none z
+  -- and it has none, where b has a potential
+  pub inside_free : Zero (town_in q.problem) (lengths_at v) (extra_in q b) → 0 < potential_at v b → (J : Set) → J ≡ extra_in q b →
+      Cheaper (town_in q.problem) (start_in q.problem) (reached_in q.problem) (lengths_at v) (potential_at v) b J
+  inside_free z some J e = subst (Cheaper t T In l g b) (sym e) (stages.better_free t T In l g K s.level b (class_in c b) the_class low z some)
+
+  -- and where b has none, none is left
+  pub inside_done : potential_at v b ≡ 0 → ((k : ℕ) → k < size (town_in q.problem) → cut (town_in q.problem) (class_in c b) k ≡ false) →
+      (u : ℕ) → reached_in q.problem u ≡ true → potential_at v u ≡ 0
+  inside_done nothing none = stages.done t T In l g K s.level b (class_in c b) the_class low nothing none
 
   module _ (Z : Set) (eZ : Z ≡ class_in c b) where
     class_Z : Class t l b Z
@@ -88,11 +93,11 @@ module _ (q : Prices) (v : Level) (c : Classes) (b : ℕ) (s : Pass q v) (cs : C
     look_room k x y h sd px py = omega (arith, stages.room_two t T In l g K s.level b Z class_Z low k x y h sd px py)
 
     -- the class is charged
-    pub look_charge : (k : ℕ) → potential_at v b ≤ cost (town_in q.problem) (lengths_at v) (extra_in q b) → ((j : ℕ) → j < size (town_in q.problem) → cut (town_in q.problem) Z j ≡ true → extra_in q b j ≡ false) →
+    pub look_charge : (k : ℕ) → ((j : ℕ) → j < size (town_in q.problem) → cut (town_in q.problem) Z j ≡ true → extra_in q b j ≡ false) →
         Tightest (town_in q.problem) (lengths_at v) (potential_at v) b Z q.problem.streets.town.now.count k → 1 ≤ slack (town_in q.problem) (lengths_at v) (potential_at v) b Z k →
         Charged (town_in q.problem) (start_in q.problem) (reached_in q.problem) (lengths_at v) (potential_at v) (extra_in q) Z (slack (town_in q.problem) (lengths_at v) (potential_at v) b Z k) b
-    look_charge k high clear tight some = record {
-      stage = stages.stage t T In l g K s.level b Z class_Z low (slack t l g b Z k) high
+    look_charge k clear tight some = record {
+      stage = stages.stage t T In l g K s.level b Z class_Z low (slack t l g b Z k)
           (stages.room_of t l g b Z (slack t l g b Z k) look_room (λ j h u. tight.least j (omega (arith, size_model q.problem.streets.town.now)) u)) clear;
       class = class_Z;
       lowest = low;

@@ -51,11 +51,11 @@ module _ (t : Town) (T : Set → Bool) (In : Set) (l g : ℕ → ℕ) (K : ℕ �
         let d = cut_side t k Z c in
         omega (arith, room k d.0 d.1 h d.2 d.3 d.4, lv.near k d.0 d.1 h d.2, flat_in d.0 d.3)
 
-    -- the set for b is dearer than g says, or has a street out of Z, or there is a stage
-    pub stage : (e : ℕ) → g b ≤ cost t l (K b) → Room t l g b Z e → ((k : ℕ) → k < size t → cut t Z k ≡ true → K b k ≡ false) → Stage t T l g b Z e (K b)
-    stage e high room clear = record {
+    -- the set for b has a street out of Z, or there is a stage
+    pub stage : (e : ℕ) → Room t l g b Z e → ((k : ℕ) → k < size t → cut t Z k ≡ true → K b k ≡ false) → Stage t T l g b Z e (K b)
+    stage e room clear = record {
       joins = lv.joins b base.met;
-      costs = omega (arith, lv.low b base.met);
+      low = lv.low b base.met;
       long = cl.long;
       room = room;
       clear = clear;
@@ -91,9 +91,13 @@ module _ (t : Town) (T : Set → Bool) (In : Set) (l g : ℕ → ℕ) (K : ℕ �
         still : (K b ⊞ Q) k ≡ true
         still = ap₂ (λ p q. p ⊕ q) own (false_from_ne_true (Q k) (λ y. omega (arith, zQ k h y)))
 
-    -- no street leads out of Z, and the set for b costs nothing
-    pub done : g b ≤ cost t l (K b) → ((k : ℕ) → k < size t → cut t Z k ≡ false) → Zero t l (K b) → (u : ℕ) → In u ≡ true → g u ≡ 0
-    done high none z u hu = flat_in u (sym (whole Z b u base.met hu none) ∙ cl.base) ∙ omega (arith, cost_none t l (K b) z)
+    -- the set for b costs nothing
+    pub better_free : Zero t l (K b) → 0 < g b → Cheaper t T In l g b (K b)
+    better_free z some = record { met = base.met; joins = lv.joins b base.met; cheap = omega (arith, cost_none t l (K b) z) }
+
+    -- no street leads out of Z, and b has no potential
+    pub done : g b ≡ 0 → ((k : ℕ) → k < size t → cut t Z k ≡ false) → (u : ℕ) → In u ≡ true → g u ≡ 0
+    done nothing none u hu = flat_in u (sym (whole Z b u base.met hu none) ∙ cl.base) ∙ nothing
 
     -- and so all crossings are in Z
     pub all_in : ((k : ℕ) → k < size t → cut t Z k ≡ false) → (u : ℕ) → In u ≡ true → Z u ≡ true

@@ -1,5 +1,5 @@
 -- A stage at which a class of crossings is charged, and circuits through its border. Assumes nothing: these are definitions.
-use Rattle.std.specs.Prelude.{◌≡◌, ℕ, ◌<◌, Bool, true, false}
+use Rattle.std.specs.Prelude.{◌≡◌, ℕ, ◌<◌, ◌≤◌, Bool, true, false}
 use Rattle.road.specs.Roads.{Town}
 use Rattle.road.specs.Counts.{◌⊕◌, size, Set, cut, Side}
 use Rattle.join.specs.Joins.{◌⊞◌, single, Joins, at, cost, Zero, Long, Room}
@@ -12,10 +12,10 @@ pub record Exit (t : Town) (Z J : Set) (k x y : ℕ) : Type 0 where
   pub inside : Z x ≡ true
   pub outside : Z y ≡ false
 
--- a stage: B leads to b, costs g b and has no street out of Z, and each street out of Z leaves room for 2 * e
+-- a stage: B leads to b, costs no more than g b and has no street out of Z, and each street out of Z leaves room for 2 * e
 pub record Stage (t : Town) (T : Set → Bool) (l g : ℕ → ℕ) (b : ℕ) (Z : Set) (e : ℕ) (B : Set) : Type 0 where
   pub joins : Joins t T b B
-  pub costs : cost t l B ≡ g b
+  pub low : cost t l B ≤ g b
   pub long : Long t l Z
   pub room : Room t l g b Z e
   pub clear : (k : ℕ) → k < size t → cut t Z k ≡ true → B k ≡ false

@@ -1,10 +1,8 @@
 // A look at one stage: a set that is cheaper than its potential, a class to charge, or neither.
-ghost use Rattle.std.specs.Prelude.{◌≡◌, ℕ, ◌<◌, ◌≤◌, false, IfOk};
+ghost use Rattle.std.specs.Prelude.{◌≡◌, ℕ, ◌<◌, false, IfOk};
 ghost use Rattle.road.specs.Counts.{size, cut as cuts};
-ghost use Rattle.join.specs.Joins.{cost as costs};
 ghost use Rattle.join.specs.Classes.{class_in};
 ghost use Rattle.join.specs.Problems.{town_in, reached_in};
-ghost use Rattle.join.specs.Prices.{extra_in};
 ghost use Rattle.join.specs.Potentials.{Lowest};
 ghost use Rattle.join.specs.Turns.{lengths_at, potential_at, FindsAt, Named};
 
@@ -17,10 +15,9 @@ use crate::weighted::Weighted;
 use std::alloc::{AllocError, Global};
 
 impl Contraction<'_, '_, '_> {
-    // Where no street leads out of the class of b: the set for b goes round over a street that has a length, or no potential is left.
+    // Where no street leads out of the class of b: the set for b goes round over a street that has a length, or costs nothing and is cheaper for that, or no potential is left.
     fn look_inside(&self, b: usize) -> Turn
         requires lowest { (Lowest (reached_in self.now.prices.now.problem) (potential_at self.now.level.now) b) × (b < 100) }
-        requires high { potential_at self.now.level.now b ≤ costs (town_in self.now.prices.now.problem) (lengths_at self.now.level.now) (extra_in self.now.prices.now b) }
         requires none { (k : ℕ) → k < size (town_in self.now.prices.now.problem) → cuts (town_in self.now.prices.now.problem) (class_in self.now.classes.now b) k ≡ false }
         ensures finds { FindsAt self.now.prices.now self.now.level.now result }
         ensures named { Named (town_in self.now.prices.now.problem) self.now.classes.now result }
@@ -43,17 +40,20 @@ impl Contraction<'_, '_, '_> {
                     drives: xor(&there, &home),
                 })
             }
+            None if level.potential[b] > 0 => Turn::Better(Found {
+                crossing: b,
+                drives: *drives,
+            }),
             None => Turn::Done,
         }
     }
 
-    // Looks at the class of b, whose set costs no less than its potential.
-    fn look_out(&self, b: usize, heap: Global) -> Result<Turn, AllocError>
-        requires lowest { (Lowest (reached_in self.now.prices.now.problem) (potential_at self.now.level.now) b) × (b < 100) }
-        requires high { potential_at self.now.level.now b ≤ costs (town_in self.now.prices.now.problem) (lengths_at self.now.level.now) (extra_in self.now.prices.now b) }
+    // Looks at the class of the crossing with the least potential.
+    pub(crate) fn look(&self, heap: Global) -> Result<Turn, AllocError>
         ensures { IfOk result (λ turn. FindsAt self.now.prices.now self.now.level.now turn × Named (town_in self.now.prices.now.problem) self.now.classes.now turn) }
     {
         let prices = self.prices;
+        let b = self.level.least(&prices.problem);
         let drives = prices.extra_for(b);
         let marks = self.classes.class_of(b);
         let cut = Cut {
@@ -84,26 +84,5 @@ impl Contraction<'_, '_, '_> {
             }
             None => Ok(self.look_inside(b)),
         }
-    }
-
-    // Looks at the class of the crossing with the least potential.
-    pub(crate) fn look(&self, heap: Global) -> Result<Turn, AllocError>
-        ensures { IfOk result (λ turn. FindsAt self.now.prices.now self.now.level.now turn × Named (town_in self.now.prices.now.problem) self.now.classes.now turn) }
-    {
-        let prices = self.prices;
-        let level = self.level;
-        let b = level.least(&prices.problem);
-        let drives = prices.extra_for(b);
-        let streets = Weighted {
-            town: prices.problem.streets.town,
-            lengths: &level.lengths,
-        };
-        if streets.cost(drives) < level.potential[b] {
-            return Ok(Turn::Better(Found {
-                crossing: b,
-                drives: *drives,
-            }));
-        }
-        self.look_out(b, heap)
     }
 }
