@@ -7,7 +7,7 @@ use Rattle.road.proofs.Cuts.{side_turn}
 use Rattle.join.specs.declared.level.Level.{Level}
 use Rattle.join.specs.declared.partition.Classes.{Classes}
 use Rattle.join.specs.declared.prices.Prices.{Prices}
-use Rattle.join.specs.Joins.{◌⊞◌, single, cost, Zero, Class, Room}
+use Rattle.join.specs.Joins.{◌⊞◌, single, Zero, Class, Room}
 use Rattle.join.specs.Weights.{inner, outer}
 use Rattle.join.specs.Problems.{town_in, start_in, reached_in}
 use Rattle.join.specs.Prices.{extra_in}
