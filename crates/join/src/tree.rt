@@ -82,7 +82,7 @@ impl Component {
         while self.grow_within(streets, bound) {}
     }
 
-    // Comes over a shortest street that leads on, then to all that can be come to over streets no more than half longer, and says whether there is one.
+    // Comes over a shortest street that leads on, then to all that can be come to over streets no more than a sixteenth longer, and says whether there is one.
     fn grow_on(&mut self, streets: &Weighted) -> bool
         requires { Grown (town_of streets.now) any_street self.old }
         ensures grown { Grown (town_of streets.now) any_street self.new }
@@ -97,7 +97,7 @@ impl Component {
             return false;
         };
         let grown = self.grow_over(&graph, k);
-        self.explore_within(streets, streets.length(k) * 3 / 2);
+        self.explore_within(streets, streets.length(k) + streets.length(k) / 16);
         grown
     }
 
