@@ -6,4 +6,4 @@ use Rattle.text.proofs.line.legs.Goals as goal
 
 pub loop-word-preserved : goal.loop-word-preserved
 loop-word-preserved c =
-    one_read leg_in c.loop-word.legs.items c.push.new.self.items c.args.words.now c.loop-word.word-index _ c.in_ok-ok_or.field-0 _ c.loop-word.invariant (search rules) (sym c.leg.ensures ∙ c.in_ok-ok_or.ensures.ok_part) c.in_ok-push.ensures.items
+    one_read leg_in c.loop-word.legs.items c.push.new.self.items c.args.words.now c.loop-word.word-index _ c.in-Some.leg _ c.loop-word.invariant (search rules) (sym c.leg.ensures ∙ c.in-Some.is) c.in_ok-push.ensures.items
