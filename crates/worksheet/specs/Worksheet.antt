@@ -50,22 +50,28 @@ odd_text n = cond (n % 2 == 1) (codes "odd") (codes "even, not allowed")
 abbrev pub crossings_text : Town → ℕ → Part → List ℕ
 crossings_text t i p = codes "part " ++ (decimal i ++ codes ": crossings") ++ row_text (crossings_of t p)
 
-abbrev pub streets_out_text : Town → Part → List ℕ
-streets_out_text t p = codes "; out lead streets" ++ row_text (streets_out t p)
+abbrev pub out_text : List ℕ → List ℕ
+out_text ks = codes "; out lead streets" ++ row_text ks
 
 abbrev pub weight_text : ℕ → ℕ → List ℕ
 weight_text n weight = codes ", " ++ (decimal n ++ (codes " of them (" ++ (odd_text n ++ (codes "); weight " ++ (decimal weight ++ codes "\n")))))
 
 abbrev pub part_line : Town → ℕ → Part → List ℕ
-part_line t i p = crossings_text t i p ++ streets_out_text t p ++ weight_text (ways_out p.marks t.streets) p.weight
+part_line t i p = crossings_text t i p ++ out_text (streets_out t p) ++ weight_text (ways_out p.marks t.streets) p.weight
 
 -- the weights of the parts out of which a street leads
 abbrev pub borne : List Part → Street → List ℕ
 borne ps s = map (λ (p : Part). p.weight) (filter (λ (p : Part). leads_out p.marks s) ps)
 
 -- the most that a street may bear, and whether it bears more
+abbrev pub at_most : ℕ → List ℕ
+at_most n = codes ", at most " ++ (decimal n ++ codes "\n")
+
+abbrev pub more_than : ℕ → List ℕ
+more_than n = codes ", more than " ++ (decimal n ++ codes ", not allowed\n")
+
 abbrev pub most_text : List ℕ → ℕ → List ℕ
-most_text ws most = cond (nat_le (sum ws) most) (codes ", at most " ++ (decimal most ++ codes "\n")) (codes ", more than " ++ (decimal most ++ codes ", not allowed\n"))
+most_text ws most = cond (nat_le (sum ws) most) (at_most most) (more_than most)
 
 -- street k: the weights that it bears, and twice its length
 abbrev pub bears_text : ℕ → List ℕ → ℕ → List ℕ
