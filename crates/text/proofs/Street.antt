@@ -1,5 +1,5 @@
 -- The words of a street and the numbers that they write. Assumes nothing.
-use Rattle.std.proofs.Common.{◌≡◌, ℕ, Option, Some, None, Bor, List, [], ◌∷◌, length, map, get_or, ap, ◌∙◌, refl, arith}
+use Rattle.std.proofs.Common.{◌≡◌, ℕ, Option, Some, Bor, List, [], ◌∷◌, length, map, get_or, ap, ◌∙◌, refl, arith}
 use Rattle.std.specs.Option.{option_and_then}
 use Rattle.text.specs.Words.{number_in}
 use Rattle.text.specs.Entries.{numbers_in}

@@ -1,4 +1,5 @@
 // What was expected in place of a line.
+use std::error::Error;
 use std::fmt;
 
 #[derive(Clone, Copy, Debug)]
@@ -28,18 +29,14 @@ impl LineFault {
             LineFault::FirstWord => {
                 "crossings, depot, street, round, length or part as the first word"
             }
-            LineFault::Crossings => {
-                "\"crossings N\" with one whole number of at most 19 digits"
-            }
+            LineFault::Crossings => { "\"crossings N\" with one whole number of at most 19 digits" }
             LineFault::Depot => "\"depot D\" with one whole number of at most 19 digits",
             LineFault::Street => {
                 "\"street A B L\" with three whole numbers of at most 19 digits"
             }
             LineFault::Round => "\"round\" and its legs, such as 4 or 4b, each below 2^63",
             LineFault::Length => "\"length L of A\" with two whole numbers of at most 19 digits",
-            LineFault::Part => {
-                "\"part W at\" and crossings, whole numbers of at most 19 digits"
-            }
+            LineFault::Part => { "\"part W at\" and crossings, whole numbers of at most 19 digits" }
             LineFault::SecondCrossings => "no second line \"crossings N\"",
             LineFault::SecondDepot => "no second line \"depot D\"",
             LineFault::SecondRound => "no second line \"round\"",
@@ -54,3 +51,5 @@ impl fmt::Display for LineFault {
         write!(f, "expected {}", self.expected())
     }
 }
+
+impl Error for LineFault {}

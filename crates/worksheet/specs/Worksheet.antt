@@ -64,14 +64,8 @@ abbrev pub borne : List Part → Street → List ℕ
 borne ps s = map (λ (p : Part). p.weight) (filter (λ (p : Part). leads_out p.marks s) ps)
 
 -- the most that a street may bear, and whether it bears more
-abbrev pub at_most : ℕ → List ℕ
-at_most n = codes ", at most " ++ (decimal n ++ codes "\n")
-
-abbrev pub more_than : ℕ → List ℕ
-more_than n = codes ", more than " ++ (decimal n ++ codes ", not allowed\n")
-
 abbrev pub most_text : List ℕ → ℕ → List ℕ
-most_text ws most = cond (nat_le (sum ws) most) (at_most most) (more_than most)
+most_text ws most = cond (nat_le (sum ws) most) (codes ", at most " ++ (decimal most ++ codes "\n")) (codes ", more than " ++ (decimal most ++ codes ", not allowed\n"))
 
 -- street k: the weights that it bears, and twice its length
 abbrev pub bears_text : ℕ → List ℕ → ℕ → List ℕ
