@@ -3,3 +3,4 @@ pub mod Splits
 pub mod Lookups
 pub mod Characters
 pub mod Served
+pub mod Sorting

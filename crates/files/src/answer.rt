@@ -5,7 +5,7 @@ use std::alloc::Global;
 use std::fmt::Display;
 
 // The length of a round, and that of all streets once.
-#[derive(Clone, Copy, PartialEq, Eq, Debug)]
+#[derive(Clone, Copy)]
 pub struct Lengths {
     pub round: u128,
     pub streets: u128,

@@ -43,7 +43,7 @@ impl fmt::Display for Headed<'_> {
 }
 
 // What a program answers with.
-#[derive(Clone, Copy)]
+#[derive(Drop)]
 pub(crate) struct Answerer<'a, R, A> {
     pub rt: &'a R,
     pub answer: &'a A,

@@ -1,5 +1,5 @@
 // The arguments of a program: options and names.
-ghost use Rattle.std.specs.Prelude.{◌≡◌, ◌++◌, IfOk, map, filter, not, position, string_bytes, option_map};
+ghost use Rattle.std.specs.Prelude.{◌≡◌, ◌++◌, IfOk, OnOk, map, filter, not, position, string_bytes, option_map};
 ghost use Rattle.files.specs.Arguments.{is_option, is_end, before_end, after_end, options_of, named, names_of, first_unknown};
 
 use std::alloc::{AllocError, Global};
@@ -38,44 +38,48 @@ fn split_at_end<'a>(args: &'a [String]) -> (&'a [String], &'a [String])
     }
 }
 
-fn options<'a>(heap: Global, before: &'a [String]) -> Result<Vec<&'a str>, AllocError>
-    ensures { IfOk result (λ v. map (λ x. x.now) v.items ≡ filter is_option (map string_bytes before.now)) }
-{
-    before
-        .iter()
-        .map(|arg| arg.as_str())
-        .filter(|arg| is_option(arg))
-        .collect(heap)
-}
-
-fn names<'a>(
-    heap: Global,
-    before: &'a [String],
-    after: &'a [String],
-) -> Result<Vec<&'a str>, AllocError>
-    ensures { IfOk result (λ v. map (λ x. x.now) v.items ≡ filter (λ x. not (is_option x)) (map string_bytes before.now) ++ map string_bytes after.now) }
-{
-    before
-        .iter()
-        .map(|arg| arg.as_str())
-        .filter(|arg| !is_option(arg))
-        .chain(after.iter().map(|arg| arg.as_str()))
-        .collect(heap)
-}
-
 impl<'a> Arguments<'a> {
+    // The options before the end of the options, and the names there.
+    fn sorted(heap: Global, before: &'a [String]) -> Result<Arguments<'a>, AllocError>
+        ensures options { IfOk result (λ a. map (λ o. o.now) a.options.items ≡ filter is_option (map string_bytes before.now)) }
+        ensures names { IfOk result (λ a. map (λ o. o.now) a.names.items ≡ filter (λ x. not (is_option x)) (map string_bytes before.now)) }
+    {
+        let mut options = Vec::new(heap);
+        let mut names = Vec::new(heap);
+        for arg in before {
+            let arg = arg.as_str();
+            if is_option(arg) {
+                options.push(arg)?;
+            } else {
+                names.push(arg)?;
+            }
+        }
+        Ok(Arguments { options, names })
+    }
+
+    // All after the end of the options are names.
+    fn add_names(&mut self, after: &'a [String]) -> Result<(), AllocError>
+        ensures options { self.new.options ≡ self.old.options }
+        ensures names { OnOk result (map (λ o. o.now) self.new.names.items ≡ map (λ o. o.now) self.old.names.items ++ map string_bytes after.now) }
+    {
+        for arg in after {
+            self.names.push(arg.as_str())?;
+        }
+        Ok(())
+    }
+
     // What is named is standard input if nothing is named.
     pub fn read(heap: Global, args: &'a [String]) -> Result<Arguments<'a>, AllocError>
         ensures options { IfOk result (λ a. map (λ o. o.now) a.options.items ≡ options_of (map string_bytes args.now)) }
         ensures names { IfOk result (λ a. map (λ o. o.now) a.names.items ≡ names_of (map string_bytes args.now)) }
     {
         let (before, after) = split_at_end(args);
-        let options = options(heap, before)?;
-        let mut names = names(heap, before, after)?;
-        if names.is_empty() {
-            names.push("-")?;
+        let mut arguments = Arguments::sorted(heap, before)?;
+        arguments.add_names(after)?;
+        if arguments.names.is_empty() {
+            arguments.names.push("-")?;
         }
-        Ok(Arguments { options, names })
+        Ok(arguments)
     }
 
     // The first option that is not known.

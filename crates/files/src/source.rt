@@ -6,7 +6,7 @@ use crate::one_line::OneLine;
 use std::fmt::Display;
 use std::{fmt, fs, io};
 
-#[derive(Clone, Copy, PartialEq, Eq, Debug)]
+#[derive(Clone, Copy)]
 pub enum Source<'a> {
     StandardInput,
     File(&'a str),

@@ -1,6 +1,6 @@
 // How many texts have an answer, how many of them went well, and their lengths together.
 ghost use Rattle.std.specs.Prelude.{◌≡◌, ◌+◌, ◌<◌, ◌≤◌, ◌^◌, Some};
-ghost use Rattle.files.specs.Sums.{both, count, joined, none_yet, last_line};
+ghost use Rattle.files.specs.Sums.{both, count, joined, none_yet, sums, last_line};
 
 use crate::Lengths;
 use std::fmt;
@@ -59,6 +59,21 @@ impl Tally {
     }
 }
 
+// Lengths together, as the last line says them; nothing if they are too long.
+#[derive(Clone, Copy)]
+struct Sums(Option<Lengths>);
+
+impl fmt::Display for Sums {
+    ghost output = { λ s. Some (sums s.0) };
+
+    fn fmt<W: fmt::Write>(&self, f: &mut fmt::Formatter<W>) -> fmt::Result {
+        match self.0 {
+            Some(Lengths { round, streets }) => write!(f, ", length {round} of {streets}"),
+            None => Ok(()),
+        }
+    }
+}
+
 // The last line of several answers.
 #[derive(Clone, Copy)]
 pub(crate) struct LastLine<'a> {
@@ -73,10 +88,7 @@ impl fmt::Display for LastLine<'_> {
     fn fmt<W: fmt::Write>(&self, f: &mut fmt::Formatter<W>) -> fmt::Result {
         let LastLine { tally, named, done } = *self;
         let well = tally.well;
-        write!(f, "# {well} of {named} {done}")?;
-        if let Some(Lengths { round, streets }) = tally.together {
-            write!(f, ", length {round} of {streets}")?;
-        }
-        f.write_str("\n")
+        let sums = Sums(tally.together);
+        writeln!(f, "# {well} of {named} {done}{sums}")
     }
 }

@@ -1,7 +1,7 @@
 -- Words that are read one by one. Assumes nothing.
-use Rattle.std.proofs.Common.{◌≡◌, ℕ, ◌+◌, ◌<◌, Option, Some, None, Bor, List, [], ◌∷◌, ◌++◌, length, map, get_or, drop, sym, ap, ◌∙◌, refl}
+use Rattle.std.proofs.Common.{◌≡◌, ℕ, ◌+◌, ◌<◌, ◌≤◌, Option, Some, None, Bor, List, [], ◌∷◌, ◌++◌, length, map, get_or, drop, sym, ap, ◌∙◌, refl, append-nil}
 use Rattle.std.specs.Option.{option_map, option_and_then}
-use Rattle.std.proofs.lemmas.List.{append_assoc, at_drop_more}
+use Rattle.std.proofs.lemmas.List.{append_assoc, at_drop_more, drop_all}
 use Rattle.text.specs.Words.{each}
 
 -- what the numbers so far and the words that are left give together
@@ -21,3 +21,15 @@ one_read one xs zs words i d x told e below reads z =
     ∙ ap (λ o. option_map (λ ys. xs ++ ys) (option_and_then (λ x. option_and_then (λ ys. Some (x ∷ ys)) (each one (map (λ w. w.now) (drop (i + 1) words)))) o)) (sym reads)
     ∙ sym (at_drop_more (with_rest one xs) words i d below)
     ∙ e
+
+-- a word that writes none
+pub none_read : (one : List ℕ → Option ℕ) (xs : List ℕ) (words : List (Bor (List ℕ))) (i : ℕ) (d : Bor (List ℕ)) (told : Option (List ℕ)) → with_rest one xs (drop i words) ≡ told →
+    i < length words → one (get_or words i d).now ≡ None → told ≡ None
+none_read one xs words i d told e below reads =
+    sym e
+    ∙ at_drop_more (with_rest one xs) words i d below
+    ∙ ap (λ o. option_map (λ ys. xs ++ ys) (option_and_then (λ x. option_and_then (λ ys. Some (x ∷ ys)) (each one (map (λ w. w.now) (drop (i + 1) words)))) o)) reads
+
+-- all words are read
+pub all_read : (one : List ℕ → Option ℕ) (xs : List ℕ) (words : List (Bor (List ℕ))) (i : ℕ) (told : Option (List ℕ)) → with_rest one xs (drop i words) ≡ told → length words ≤ i → told ≡ Some xs
+all_read one xs words i told e over = sym e ∙ ap (with_rest one xs) (drop_all i words over) ∙ ap Some (append-nil xs)

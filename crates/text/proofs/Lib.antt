@@ -15,4 +15,5 @@ mod Parts
 mod Telling
 mod Words
 mod ShortTowns
+mod Street
 mod Writing

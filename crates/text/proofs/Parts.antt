@@ -1,8 +1,8 @@
 -- The parts of a text as numbers, one by one. Assumes nothing.
-use Rattle.std.proofs.Common.{◌≡◌, ℕ, ◌+◌, ◌<◌, Bool, true, false, Option, Result, Ok, Err, List, [], ◌∷◌, ◌++◌, length, map, get_or, drop, min, nat_lt, vec_items, sym, ap, ◌∙◌, refl}
+use Rattle.std.proofs.Common.{◌≡◌, ℕ, ◌+◌, ◌<◌, ◌≤◌, Bool, true, false, Option, Result, Ok, Err, List, [], ◌∷◌, ◌++◌, length, map, get_or, drop, min, nat_lt, vec_items, sym, ap, ◌∙◌, refl, append-nil}
 use Rattle.std.specs.List.{flat_map, list_all}
 use Rattle.std.proofs.lemmas.Bool.{false≢true}
-use Rattle.std.proofs.lemmas.List.{append_assoc, at_drop_more}
+use Rattle.std.proofs.lemmas.List.{append_assoc, at_drop_more, drop_all}
 use Rattle.road.specs.First.{unless, ◌then◌}
 use Rattle.text.specs.declared.line.PartLine.{PartLine}
 use Rattle.text.specs.declared.line_fault.LineFault.TheVariants.{PartCrossing}
@@ -46,3 +46,7 @@ other_part n xs ps i p told e below is outer =
     let rest = map part_entry (drop (i + 1) ps) in
     sym e ∙ at_drop_more (with_parts n xs) ps i p below ∙ sym (ap (λ q. with_parts n xs (q ∷ drop (i + 1) ps)) is)
     ∙ outside (part_fault n rest) (Line p.line PartCrossing) (xs ++ flat_map (part_numbers n) (part_entry p ∷ rest)) _ outer
+
+-- no part is left
+pub all_parts : (n : ℕ) (xs : List ℕ) (ps : List PartLine) (i : ℕ) (told : Result (List ℕ) TextError) → with_parts n xs (drop i ps) ≡ told → length ps ≤ i → told ≡ Ok xs
+all_parts n xs ps i told e over = sym e ∙ ap (with_parts n xs) (drop_all i ps over) ∙ ap Ok (append-nil xs)

@@ -1,11 +1,11 @@
 // A line of a text: what it says, or what is wrong with it.
 ghost use Rattle.std.specs.Prelude.{◌≡◌, map};
-ghost use Rattle.std.specs.Option.{ok_or};
-ghost use Rattle.text.specs.declared.line.LineError.TheVariants.{Memory, Fault};
+ghost use Rattle.std.specs.Option.{ok_or, option_map};
+ghost use Rattle.text.specs.declared.line.LineError.TheVariants.{Memory};
 ghost use Rattle.text.specs.declared.line_fault.LineFault.TheVariants.{Round, Part};
 ghost use Rattle.text.specs.Words.{number_in, leg_in, each};
-ghost use Rattle.text.specs.Entries.{entry, number_alone as number_alone_in, numbers_in, is_length as is_length_of, part_in};
-ghost use Rattle.text.specs.Lines.{entry_of, part_entry, result_at, TellsLine};
+ghost use Rattle.text.specs.Entries.{RoundIs, PartIs, entry, number_alone as number_alone_in, numbers_in, is_length as is_length_of, part_in};
+ghost use Rattle.text.specs.Lines.{entry_of, result_at, TellsLine};
 
 use crate::word::{leg, number};
 use crate::{LineFault, TextError};
@@ -53,14 +53,6 @@ impl<T: Drop> From<AllocFailed<T>> for LineError {
     }
 }
 
-impl From<LineFault> for LineError {
-    ghost from_gives = { λ f r. r ≡ Fault f };
-
-    fn from(fault: LineFault) -> LineError {
-        LineError::Fault(fault)
-    }
-}
-
 // The one number that the words write.
 fn number_alone(words: &[&str]) -> Option<u64>
     ensures { result ≡ number_alone_in (map (λ w. w.now) words.now) }
@@ -78,7 +70,10 @@ fn street(words: &[&str]) -> Option<[u64; 3]>
     let [one, two, long] = words else {
         return None;
     };
-    Some([number(one)?, number(two)?, number(long)?])
+    match (number(one), number(two), number(long)) {
+        (Some(one), Some(two), Some(long)) => Some([one, two, long]),
+        _ => None,
+    }
 }
 
 // Whether the words are the length of a round and that of all streets. The checker works both out, and keeps neither.
@@ -92,14 +87,17 @@ fn is_length(words: &[&str]) -> bool
 }
 
 // The legs of a round.
-fn legs(heap: Global, words: &[&str]) -> Result<Vec<u64>, LineError>
-    ensures { TellsLine (λ v. v.items) (ok_or (each leg_in (map (λ w. w.now) words.now)) Round) result }
+fn legs(heap: Global, words: &[&str]) -> Result<Line, LineError>
+    ensures { TellsLine entry_of (ok_or (option_map RoundIs (each leg_in (map (λ w. w.now) words.now))) Round) result }
 {
     let mut legs = Vec::new(heap);
     for word in words {
-        legs.push(leg(word).ok_or(LineFault::Round)?)?;
+        let Some(leg) = leg(word) else {
+            return Err(LineError::Fault(LineFault::Round));
+        };
+        legs.push(leg)?;
     }
-    Ok(legs)
+    Ok(Line::Round(legs))
 }
 
 // The crossings of a part. One function for these and for legs would take the reader of a word as a closure, and be longer than both.
@@ -108,28 +106,33 @@ fn crossings(heap: Global, words: &[&str]) -> Result<Vec<u64>, LineError>
 {
     let mut crossings = Vec::new(heap);
     for word in words {
-        crossings.push(number(word).ok_or(LineFault::Part)?)?;
+        let Some(crossing) = number(word) else {
+            return Err(LineError::Fault(LineFault::Part));
+        };
+        crossings.push(crossing)?;
     }
     Ok(crossings)
 }
 
 // A part of a sheet.
-fn part(heap: Global, line: usize, words: &[&str]) -> Result<PartLine, LineError>
-    ensures { TellsLine part_entry (ok_or (part_in line (map (λ w. w.now) words.now)) Part) result }
+fn part(heap: Global, line: usize, words: &[&str]) -> Result<Line, LineError>
+    ensures { TellsLine entry_of (ok_or (option_map PartIs (part_in line (map (λ w. w.now) words.now))) Part) result }
 {
     let [first, at, rest @ ..] = words else {
-        return Err(LineFault::Part.into());
+        return Err(LineError::Fault(LineFault::Part));
     };
     if *at != "at" {
-        return Err(LineFault::Part.into());
+        return Err(LineError::Fault(LineFault::Part));
     }
-    let weight = number(first).ok_or(LineFault::Part)?;
+    let Some(weight) = number(first) else {
+        return Err(LineError::Fault(LineFault::Part));
+    };
     let crossings = crossings(heap, rest)?;
-    Ok(PartLine {
+    Ok(Line::Part(PartLine {
         line,
         weight,
         crossings,
-    })
+    }))
 }
 
 impl Line {
@@ -141,14 +144,28 @@ impl Line {
             return Ok(Line::Nothing);
         };
         match *first {
-            "crossings" => Ok(Line::Crossings(number_alone(rest).ok_or(LineFault::Crossings)?)),
-            "depot" => Ok(Line::Depot(number_alone(rest).ok_or(LineFault::Depot)?)),
-            "street" => Ok(Line::Street(street(rest).ok_or(LineFault::Street)?)),
-            "round" => Ok(Line::Round(legs(heap, rest)?)),
-            "length" if is_length(rest) => Ok(Line::Length),
-            "length" => Err(LineFault::Length.into()),
-            "part" => Ok(Line::Part(part(heap, line, rest)?)),
-            _ => Err(LineFault::FirstWord.into()),
+            "crossings" => match number_alone(rest) {
+                Some(n) => Ok(Line::Crossings(n)),
+                None => Err(LineError::Fault(LineFault::Crossings)),
+            },
+            "depot" => match number_alone(rest) {
+                Some(d) => Ok(Line::Depot(d)),
+                None => Err(LineError::Fault(LineFault::Depot)),
+            },
+            "street" => match street(rest) {
+                Some(street) => Ok(Line::Street(street)),
+                None => Err(LineError::Fault(LineFault::Street)),
+            },
+            "round" => legs(heap, rest),
+            "length" => {
+                if is_length(rest) {
+                    Ok(Line::Length)
+                } else {
+                    Err(LineError::Fault(LineFault::Length))
+                }
+            }
+            "part" => part(heap, line, rest),
+            _ => Err(LineError::Fault(LineFault::FirstWord)),
         }
     }
 }

@@ -30,9 +30,9 @@ fn write_legs(out: &mut String, legs: &[u64]) -> Result<(), AllocError>
 fn write_round(out: &mut String, legs: &[u64]) -> Result<(), AllocError>
     ensures { OnOk result (string_bytes out.new ≡ string_bytes out.old ++ round_line (legs_in legs.now)) }
 {
-    write!(out, "round")?;
+    out.push_str("round")?;
     write_legs(out, legs)?;
-    write!(out, "\n")
+    out.push_str("\n")
 }
 
 // The length of a round, and of all streets.
@@ -69,7 +69,7 @@ fn write_part(out: &mut String, weight: u64, marks: &[u64]) -> Result<(), AllocE
 {
     write!(out, "part {weight} at")?;
     write_marks(out, marks)?;
-    write!(out, "\n")
+    out.push_str("\n")
 }
 
 // The parts of a sheet; a part of 2^64 numbers would be longer than any list.

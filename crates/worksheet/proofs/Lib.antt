@@ -2,3 +2,4 @@
 mod Parts
 mod Sums
 mod Ticked
+mod Writing

@@ -24,7 +24,7 @@ passing_count (suc n) test =
     let more = simp map-id at (filter_of_map_range_with_len_more test (λ k. k) 0 n n (zero-add n)) in
     ap (λ m. length (filter test (range_with_len 0 m))) (sym (add-one n)) ∙ ap length more ∙ one_more (test n) n (passing n test) ∙ ap (λ m. bit (test n) + m) (passing_count n test)
 
-out_is : (t : Town) (p : Part) → length (streets_out t p) ≡ ways_out p.marks t.streets
+pub out_is : (t : Town) (p : Part) → length (streets_out t p) ≡ ways_out p.marks t.streets
 out_is t p = passing_count (size t) (λ k. leads_out p.marks (street t k)) ∙ sym (ways_out_sum t p.marks)
 
 pub ticked_shortest : TickedShortest

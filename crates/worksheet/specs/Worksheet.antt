@@ -50,14 +50,14 @@ odd_text n = cond (n % 2 == 1) (codes "odd") (codes "even, not allowed")
 abbrev pub crossings_text : Town → ℕ → Part → List ℕ
 crossings_text t i p = codes "part " ++ (decimal i ++ codes ": crossings") ++ row_text (crossings_of t p)
 
-abbrev pub streets_out_text : Town → Part → List ℕ
-streets_out_text t p = codes "; out lead streets" ++ row_text (streets_out t p)
+abbrev pub out_text : List ℕ → List ℕ
+out_text ks = codes "; out lead streets" ++ row_text ks
 
 abbrev pub weight_text : ℕ → ℕ → List ℕ
 weight_text n weight = codes ", " ++ (decimal n ++ (codes " of them (" ++ (odd_text n ++ (codes "); weight " ++ (decimal weight ++ codes "\n")))))
 
 abbrev pub part_line : Town → ℕ → Part → List ℕ
-part_line t i p = crossings_text t i p ++ streets_out_text t p ++ weight_text (ways_out p.marks t.streets) p.weight
+part_line t i p = crossings_text t i p ++ out_text (streets_out t p) ++ weight_text (ways_out p.marks t.streets) p.weight
 
 -- the weights of the parts out of which a street leads
 abbrev pub borne : List Part → Street → List ℕ

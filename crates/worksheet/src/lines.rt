@@ -1,8 +1,8 @@
 // Pieces of the lines of a worksheet, from their numbers.
 ghost use Rattle.std.specs.Prelude.{◌≡◌, ◌++◌, ◌+◌, ◌^◌, ◌<◌, string_bytes, OnOk};
-ghost use Rattle.worksheet.specs.Worksheet.{odd_text, weight_text, most_text, bears_text, sum_line, equal_text, twice_round_text, twice_streets_text, outcome_text, compared_text};
+ghost use Rattle.worksheet.specs.Worksheet.{odd_text, out_text, weight_text, most_text, bears_text, sum_line, equal_text, twice_round_text, twice_streets_text, outcome_text, compared_text};
 
-use crate::rows::{total, write_sum};
+use crate::rows::{total, write_row, write_sum};
 use std::alloc::AllocError;
 
 // Whether a number is odd, as it has to be.
@@ -24,6 +24,14 @@ fn equal_word(one: u128, two: u128) -> &'static str
     } else {
         "they differ"
     }
+}
+
+// The streets that lead out of a part.
+pub(crate) fn write_streets_out(out: &mut String, streets: &[usize]) -> Result<(), AllocError>
+    ensures { OnOk result (string_bytes out.new ≡ string_bytes out.old ++ out_text streets.now) }
+{
+    write!(out, "; out lead streets")?;
+    write_row(out, streets)
 }
 
 // How many streets lead out of a part, and its weight.

@@ -1,7 +1,7 @@
 // A part of a sheet, over lent numbers.
 ghost use Rattle.std.specs.Prelude.{◌≡◌, IfOk};
 ghost use Rattle.road.specs.Model.{model, marked};
-ghost use Rattle.sheet.specs.Sheet.{leads_out, ways_out};
+ghost use Rattle.sheet.specs.Sheet.{leads_out};
 ghost use Rattle.sheet.specs.Numbers.{sheet_in};
 ghost use Rattle.worksheet.specs.Model.{part_of, parts_of};
 ghost use Rattle.worksheet.specs.Worksheet.{crossings_of, streets_out};
@@ -63,14 +63,5 @@ impl<'n> Part<'n> {
         (0..town.count)
             .filter(|&k| self.leads_out(town.street(k)))
             .collect(heap)
-    }
-
-    // How many lead out.
-    pub(crate) fn ways_out(&self, town: &Town) -> usize
-        ensures { result ≡ ways_out (part_of self.now).marks (model town.now).streets }
-    {
-        (0..town.count)
-            .filter(|&k| self.leads_out(town.street(k)))
-            .count()
     }
 }

@@ -3,10 +3,10 @@ ghost use Rattle.std.specs.Prelude.{◌≡◌, ◌++◌, string_bytes, OnOk};
 ghost use Rattle.road.specs.Numbers.{legs_in};
 ghost use Rattle.road.specs.Model.{model};
 ghost use Rattle.worksheet.specs.Model.{part_of, parts_of};
-ghost use Rattle.worksheet.specs.Worksheet.{crossings_text, streets_out_text, part_line, street_line, weights_line, streets_line, round_line, sums_text, compared_line, worksheet_text, numbered};
+ghost use Rattle.worksheet.specs.Worksheet.{crossings_text, part_line, street_line, weights_line, streets_line, round_line, sums_text, compared_line, worksheet_text, numbered};
 
 use crate::given::Given;
-use crate::lines::{write_bears, write_compared, write_sum_line, write_weight};
+use crate::lines::{write_bears, write_compared, write_streets_out, write_sum_line, write_weight};
 use crate::part::Part;
 use crate::rows::write_row;
 use road::Street;
@@ -21,21 +21,14 @@ impl Given<'_> {
         write_row(out, crossings.as_slice())
     }
 
-    fn write_streets_out(&self, out: &mut String, part: &Part) -> Result<(), AllocError>
-        ensures { OnOk result (string_bytes out.new ≡ string_bytes out.old ++ streets_out_text (model self.now.town.now) (part_of part.now)) }
-    {
-        let streets = part.streets_out(self.heap, self.town)?;
-        write!(out, "; out lead streets")?;
-        write_row(out, streets.as_slice())
-    }
-
     // A part: its crossings, the streets that lead out of it, and its weight.
     fn write_part(&self, out: &mut String, i: usize, part: &Part) -> Result<(), AllocError>
         ensures { OnOk result (string_bytes out.new ≡ string_bytes out.old ++ part_line (model self.now.town.now) i (part_of part.now)) }
     {
+        let streets = part.streets_out(self.heap, self.town)?;
         self.write_crossings(out, i, part)?;
-        self.write_streets_out(out, part)?;
-        write_weight(out, part.ways_out(self.town), part.weight)
+        write_streets_out(out, streets.as_slice())?;
+        write_weight(out, streets.len(), part.weight)
     }
 
     fn write_parts(&self, out: &mut String) -> Result<(), AllocError>
