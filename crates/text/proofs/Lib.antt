@@ -15,5 +15,4 @@ mod Parts
 mod Telling
 mod Words
 mod ShortTowns
-mod Street
 mod Writing

@@ -1,7 +1,7 @@
 // A line of a text: what it says, or what is wrong with it.
 ghost use Rattle.std.specs.Prelude.{◌≡◌, map};
 ghost use Rattle.std.specs.Option.{ok_or, option_map};
-ghost use Rattle.text.specs.declared.line.LineError.TheVariants.{Memory};
+ghost use Rattle.text.specs.declared.line.LineError.TheVariants.{Memory, Fault};
 ghost use Rattle.text.specs.declared.line_fault.LineFault.TheVariants.{Round, Part};
 ghost use Rattle.text.specs.Words.{number_in, leg_in, each};
 ghost use Rattle.text.specs.Entries.{RoundIs, PartIs, entry, number_alone as number_alone_in, numbers_in, is_length as is_length_of, part_in};
@@ -53,6 +53,14 @@ impl<T: Drop> From<AllocFailed<T>> for LineError {
     }
 }
 
+impl From<LineFault> for LineError {
+    ghost from_gives = { λ f r. r ≡ Fault f };
+
+    fn from(fault: LineFault) -> LineError {
+        LineError::Fault(fault)
+    }
+}
+
 // The one number that the words write.
 fn number_alone(words: &[&str]) -> Option<u64>
     ensures { result ≡ number_alone_in (map (λ w. w.now) words.now) }
@@ -70,10 +78,7 @@ fn street(words: &[&str]) -> Option<[u64; 3]>
     let [one, two, long] = words else {
         return None;
     };
-    match (number(one), number(two), number(long)) {
-        (Some(one), Some(two), Some(long)) => Some([one, two, long]),
-        _ => None,
-    }
+    Some([number(one)?, number(two)?, number(long)?])
 }
 
 // Whether the words are the length of a round and that of all streets. The checker works both out, and keeps neither.
@@ -119,13 +124,13 @@ fn part(heap: Global, line: usize, words: &[&str]) -> Result<Line, LineError>
     ensures { TellsLine entry_of (ok_or (option_map PartIs (part_in line (map (λ w. w.now) words.now))) Part) result }
 {
     let [first, at, rest @ ..] = words else {
-        return Err(LineError::Fault(LineFault::Part));
+        return Err(LineFault::Part.into());
     };
     if *at != "at" {
-        return Err(LineError::Fault(LineFault::Part));
+        return Err(LineFault::Part.into());
     }
     let Some(weight) = number(first) else {
-        return Err(LineError::Fault(LineFault::Part));
+        return Err(LineFault::Part.into());
     };
     let crossings = crossings(heap, rest)?;
     Ok(Line::Part(PartLine {
@@ -144,28 +149,14 @@ impl Line {
             return Ok(Line::Nothing);
         };
         match *first {
-            "crossings" => match number_alone(rest) {
-                Some(n) => Ok(Line::Crossings(n)),
-                None => Err(LineError::Fault(LineFault::Crossings)),
-            },
-            "depot" => match number_alone(rest) {
-                Some(d) => Ok(Line::Depot(d)),
-                None => Err(LineError::Fault(LineFault::Depot)),
-            },
-            "street" => match street(rest) {
-                Some(street) => Ok(Line::Street(street)),
-                None => Err(LineError::Fault(LineFault::Street)),
-            },
+            "crossings" => Ok(Line::Crossings(number_alone(rest).ok_or(LineFault::Crossings)?)),
+            "depot" => Ok(Line::Depot(number_alone(rest).ok_or(LineFault::Depot)?)),
+            "street" => Ok(Line::Street(street(rest).ok_or(LineFault::Street)?)),
             "round" => legs(heap, rest),
-            "length" => {
-                if is_length(rest) {
-                    Ok(Line::Length)
-                } else {
-                    Err(LineError::Fault(LineFault::Length))
-                }
-            }
+            "length" if is_length(rest) => Ok(Line::Length),
+            "length" => Err(LineFault::Length.into()),
             "part" => part(heap, line, rest),
-            _ => Err(LineError::Fault(LineFault::FirstWord)),
+            _ => Err(LineFault::FirstWord.into()),
         }
     }
 }

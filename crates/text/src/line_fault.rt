@@ -1,55 +1,35 @@
 // What was expected in place of a line.
-use std::error::Error;
-use std::fmt;
+use thiserror::Error;
 
-#[derive(Clone, Copy, Debug)]
+#[derive(Clone, Copy, Debug, Error)]
 pub enum LineFault {
     // No known word is first.
+    #[error("expected crossings, depot, street, round, length or part as the first word")]
     FirstWord,
     // The words after the first are not what belongs there.
+    #[error("expected \"crossings N\" with one whole number of at most 19 digits")]
     Crossings,
+    #[error("expected \"depot D\" with one whole number of at most 19 digits")]
     Depot,
+    #[error("expected \"street A B L\" with three whole numbers of at most 19 digits")]
     Street,
+    #[error("expected \"round\" and its legs, such as 4 or 4b, each below 2^63")]
     Round,
+    #[error("expected \"length L of A\" with two whole numbers of at most 19 digits")]
     Length,
+    #[error("expected \"part W at\" and crossings, whole numbers of at most 19 digits")]
     Part,
     // There was such a line before.
+    #[error("expected no second line \"crossings N\"")]
     SecondCrossings,
+    #[error("expected no second line \"depot D\"")]
     SecondDepot,
+    #[error("expected no second line \"round\"")]
     SecondRound,
     // A round, its length or a part where a town stands alone.
+    #[error("expected no round, length or part, which are for check")]
     OfCheck,
     // A part with a crossing past the town's.
+    #[error("expected crossings of the town in the part")]
     PartCrossing,
 }
-
-impl LineFault {
-    fn expected(self) -> &'static str {
-        match self {
-            LineFault::FirstWord => {
-                "crossings, depot, street, round, length or part as the first word"
-            }
-            LineFault::Crossings => { "\"crossings N\" with one whole number of at most 19 digits" }
-            LineFault::Depot => "\"depot D\" with one whole number of at most 19 digits",
-            LineFault::Street => {
-                "\"street A B L\" with three whole numbers of at most 19 digits"
-            }
-            LineFault::Round => "\"round\" and its legs, such as 4 or 4b, each below 2^63",
-            LineFault::Length => "\"length L of A\" with two whole numbers of at most 19 digits",
-            LineFault::Part => { "\"part W at\" and crossings, whole numbers of at most 19 digits" }
-            LineFault::SecondCrossings => "no second line \"crossings N\"",
-            LineFault::SecondDepot => "no second line \"depot D\"",
-            LineFault::SecondRound => "no second line \"round\"",
-            LineFault::OfCheck => "no round, length or part, which are for check",
-            LineFault::PartCrossing => "crossings of the town in the part",
-        }
-    }
-}
-
-impl fmt::Display for LineFault {
-    fn fmt<W: fmt::Write>(&self, f: &mut fmt::Formatter<W>) -> fmt::Result {
-        write!(f, "expected {}", self.expected())
-    }
-}
-
-impl Error for LineFault {}

@@ -29,7 +29,7 @@ fn set<T: Drop>(place: &mut Option<T>, value: T, second: LineFault) -> Result<()
     ensures { Sets place.old value second place.new result }
 {
     if place.is_some() {
-        return Err(LineError::Fault(second));
+        return Err(second.into());
     }
     *place = Some(value);
     Ok(())
@@ -61,7 +61,7 @@ impl Lines {
         ensures { (alone : Bool) (es : List Entry) → Gathered alone es self.old → Gathers alone (added alone es (Ok (entry_of line))) self.new result }
     {
         if !self.takes(&line) {
-            return Err(LineError::Fault(LineFault::OfCheck));
+            return Err(LineFault::OfCheck.into());
         }
         match line {
             Line::Nothing | Line::Length => Ok(()),
@@ -95,15 +95,9 @@ impl Lines {
     pub(crate) fn town(self) -> Result<TownText, TextError>
         ensures { (alone : Bool) (es : List Entry) → Gathered alone es self → Tells town_numbers (town_from es) result }
     {
-        let Some(crossings) = self.crossings else {
-            return Err(TextError::NoCrossings);
-        };
-        let Some(depot) = self.depot else {
-            return Err(TextError::NoDepot);
-        };
         Ok(TownText {
-            crossings,
-            depot,
+            crossings: self.crossings.ok_or(TextError::NoCrossings)?,
+            depot: self.depot.ok_or(TextError::NoDepot)?,
             streets: self.streets,
         })
     }
@@ -112,19 +106,13 @@ impl Lines {
     pub(crate) fn round(self, heap: Global) -> Result<RoundText, TextError>
         ensures { (alone : Bool) (es : List Entry) → Gathered alone es self → Tells round_numbers (round_from es) result }
     {
-        let Some(crossings) = self.crossings else {
-            return Err(TextError::NoCrossings);
-        };
-        let Some(depot) = self.depot else {
-            return Err(TextError::NoDepot);
-        };
         let town = TownText {
-            crossings,
-            depot,
+            crossings: self.crossings.ok_or(TextError::NoCrossings)?,
+            depot: self.depot.ok_or(TextError::NoDepot)?,
             streets: self.streets,
         };
         let legs = self.round.ok_or(TextError::NoRound)?;
-        let parts = parts_as_numbers(heap, self.parts.as_slice(), crossings)?;
+        let parts = parts_as_numbers(heap, self.parts.as_slice(), town.crossings)?;
         Ok(RoundText { town, legs, parts })
     }
 }

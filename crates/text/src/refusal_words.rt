@@ -25,29 +25,24 @@ pub fn numbered(refusal: Refusal) -> (u64, u64)
     }
 }
 
-// What is wrong in words: those before a number, the number, and those behind it. They are for what a text tells: three numbers a street, and whole parts.
-fn words(refusal: Refusal) -> (&'static str, u64, &'static str) {
-    match refusal {
-        Refusal::Crossings(n) => ("a town has 1 to 100 crossings, not ", n, ""),
-        Refusal::Numbers(n) => ("a town has at most 300 streets, not ", n / 3, ""),
-        Refusal::OutOfRange(k) => (
-            "street ",
-            k,
-            " has an end past the crossings or is longer than 100000 metres",
-        ),
-        Refusal::Depot(d) => ("depot ", d, " is past the crossings"),
-        Refusal::Unreached(k) => ("street ", k, " cannot be come to from the depot"),
-        Refusal::Room(n) => ("the room for the answer has to be ", n, " numbers long"),
-        Refusal::NoStreet(i) => ("leg ", i, " is of no street"),
-        Refusal::Parts(n) if n > 400 => ("a sheet has at most 400 parts, not ", n, ""),
-        Refusal::Parts(i) => ("part ", i, " weighs more than 10000000"),
-    }
-}
-
+// The words are for what a text tells: three numbers a street, and whole parts.
 impl fmt::Display for RefusalWords {
     fn fmt<W: fmt::Write>(&self, f: &mut fmt::Formatter<W>) -> fmt::Result {
         let (number, place) = numbered(self.0);
-        let (before, n, behind) = words(self.0);
-        write!(f, "refusal {number} at {place}: {before}{n}{behind}")
+        write!(f, "refusal {number} at {place}: ")?;
+        match self.0 {
+            Refusal::Crossings(n) => write!(f, "a town has 1 to 100 crossings, not {n}"),
+            Refusal::Numbers(n) => write!(f, "a town has at most 300 streets, not {}", n / 3),
+            Refusal::OutOfRange(k) => write!(
+                f,
+                "street {k} has an end past the crossings or is longer than 100000 metres"
+            ),
+            Refusal::Depot(d) => write!(f, "depot {d} is past the crossings"),
+            Refusal::Unreached(k) => write!(f, "street {k} cannot be come to from the depot"),
+            Refusal::Room(n) => write!(f, "the room for the answer has to be {n} numbers long"),
+            Refusal::NoStreet(i) => write!(f, "leg {i} is of no street"),
+            Refusal::Parts(n) if n > 400 => write!(f, "a sheet has at most 400 parts, not {n}"),
+            Refusal::Parts(i) => write!(f, "part {i} weighs more than 10000000"),
+        }
     }
 }
