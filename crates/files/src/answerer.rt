@@ -101,7 +101,7 @@ impl<R: Texts + Print + Eprint + AllocGlobal, A: Answer> Answerer<'_, R, A> {
     }
 
     // Answers all texts, and says whether each has an answer; several have a last line.
-    pub fn answer_all(&self, program: &Program, names: &[&str]) -> io::Result<bool>
+    pub(crate) fn answer_all(&self, program: &Program, names: &[&str]) -> io::Result<bool>
         ensures { IfOk result (λ b. IsTrue b → All (Answered (R.holds self.now.rt.now) (A.answers self.now.answer.now (map (λ o. o.now) self.now.options.now))) (map (λ x. x.now) names.now)) }
     {
         let tally = self.answer_each(names)?;

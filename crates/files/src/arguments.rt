@@ -69,7 +69,7 @@ impl<'a> Arguments<'a> {
     }
 
     // What is named is standard input if nothing is named.
-    pub fn read(heap: Global, args: &'a [String]) -> Result<Arguments<'a>, AllocError>
+    pub(crate) fn read(heap: Global, args: &'a [String]) -> Result<Arguments<'a>, AllocError>
         ensures options { IfOk result (λ a. map (λ o. o.now) a.options.items ≡ options_of (map string_bytes args.now)) }
         ensures names { IfOk result (λ a. map (λ o. o.now) a.names.items ≡ names_of (map string_bytes args.now)) }
     {
@@ -83,7 +83,7 @@ impl<'a> Arguments<'a> {
     }
 
     // The first option that is not known.
-    pub fn unknown(&self, known: &[&str]) -> Option<&'a str>
+    pub(crate) fn unknown(&self, known: &[&str]) -> Option<&'a str>
         ensures { option_map (λ o. o.now) result ≡ first_unknown (map (λ o. o.now) known.now) (map (λ o. o.now) self.now.options.items) }
     {
         self.options

@@ -26,7 +26,7 @@ impl Lengths {
 }
 
 impl Tally {
-    pub fn new() -> Tally
+    pub(crate) fn new() -> Tally
         ensures counts { (result.answered ≡ 0) × (result.well ≡ 0) }
         ensures together { result.together ≡ Some none_yet }
     {
@@ -41,7 +41,7 @@ impl Tally {
     }
 
     // Counts an answer, and its lengths if it went well.
-    pub fn add(&mut self, lengths: Option<Lengths>)
+    pub(crate) fn add(&mut self, lengths: Option<Lengths>)
         requires { self.old.answered + 1 < 2 ^ 64 }
         ensures answered { self.new.answered ≡ self.old.answered + 1 }
         ensures well { self.new.well ≡ self.old.well + count lengths }
