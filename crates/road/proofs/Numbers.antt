@@ -1,8 +1,7 @@
 -- Streets as three numbers each, and legs as one. Assumes nothing.
-use Rattle.std.proofs.Common.{◌≡◌, ℕ, zero, suc, ◌+◌, ◌*◌, ◌/◌, ◌%◌, Bool, true, false, eqb, ◌<◌, ◌≤◌, List, length, get_or, take, drop, sym, refl, map, [], ◌∷◌, ap, ap₂, ◌∙◌, Option, Some, None, MatchOption, unwrap_or, arith}
+use Rattle.std.proofs.Common.{◌≡◌, ℕ, zero, suc, ◌+◌, ◌*◌, ◌/◌, ◌%◌, Bool, true, false, eqb, ◌<◌, ◌≤◌, List, length, get_or, take, drop, sym, refl, map, [], ◌∷◌, ap, ap₂, ◌∙◌, arith}
 use Rattle.std.proofs.Math.ListN.{get_or-map}
 use Rattle.std.proofs.lemmas.List.{ext_get_or, get_or-take, length-take-le}
-use Rattle.std.specs.Option.{IsSomeAnd, UnwrapsOrElse}
 use Rattle.std.specs.Simd.{first_chunks}
 use Rattle.road.specs.declared.leg.Leg.{Leg}
 use Rattle.road.specs.Roads.{Street, street, no_street}
@@ -30,14 +29,6 @@ chunk_streets (suc m) xs = ap₂ (λ s ss. s ∷ ss) (chunk_street xs) (chunk_st
 pub street_chunk : (n : ℕ) (xs : List ℕ) (yss : List (List ℕ)) → yss ≡ first_chunks 3 (length xs / 3) xs → (k : ℕ) → street (town_in n xs) k ≡ street_of (get_or yss k [])
 unfolding street
 street_chunk n xs yss e k = ap (λ ss. get_or ss k no_street) (sym (chunk_streets (length xs / 3) xs) ∙ ap (map street_of) (sym e)) ∙ get_or-map street_of yss k []
-
--- what `map` and `unwrap_or_default` give of a chunk that may be there
-pub street_or : (P : List ℕ → Street → Type 0) (D : Street → Type 0) (o : Option (List ℕ)) (r : Option Street) (s : Street) → MatchOption o (r ≡ None) (λ xs. IsSomeAnd r (P xs)) →
-    UnwrapsOrElse r D s → ((xs : List ℕ) (t : Street) → P xs t → t ≡ street_of xs) → ((t : Street) → D t → t ≡ no_street) → s ≡ street_of (unwrap_or o [])
-street_or P D None None s m u f d = d s u
-street_or P D None (Some t) s m u f d = cc
-street_or P D (Some xs) None s m u f d = absurd m
-street_or P D (Some xs) (Some t) s m u f d = u ∙ f xs t m
 
 -- streets that were read one by one are the streets of the numbers
 pub streets_read : (n : ℕ) (xs : List ℕ) (ss : List Street) → length xs / 3 ≤ length ss → ((k : ℕ) → k < length xs / 3 → get_or ss k no_street ≡ street (town_in n xs) k) →

@@ -37,18 +37,6 @@ fn check_numbers(numbers: &[u64]) -> Result<(), Refusal>
     }
 }
 
-// Street k of the numbers; past the last a street of no length at crossing 0.
-fn street_at(numbers: &[u64], k: usize) -> Street
-    ensures { (n : ℕ) → result ≡ street (town_in n numbers.now) k }
-{
-    let (streets, _) = numbers.as_chunks::<3>();
-    streets
-        .get(k)
-        .copied()
-        .map(Street::from)
-        .unwrap_or_default()
-}
-
 fn check_streets(crossings: usize, numbers: &[u64]) -> Result<(), Refusal>
     ensures { Answers (streets_refusal (town_in crossings numbers.now)) (λ _. (k : ℕ) → k < length numbers.now / 3 → Within crossings (street (town_in crossings numbers.now) k)) result }
 {
@@ -74,11 +62,13 @@ fn read_streets(numbers: &[u64]) -> [Street; 300]
     ensures places { length result ≡ 300 }
     ensures streets { take (length numbers.now / 3) result ≡ streets_in (length numbers.now / 3) numbers.now }
 {
-    std::array::from_fn(
-        |k|
-            ensures { (n : ℕ) → result ≡ street (town_in n numbers.entry.now) k }
-        { street_at(numbers, k) },
-    )
+    let (chunks, _) = numbers.as_chunks::<3>();
+    let mut streets = [Street::default(); 300];
+    // As many turns as there are streets: `from_fn` would take 300.
+    for (k, chunk) in chunks.iter().enumerate() {
+        streets[k] = Street::from(*chunk);
+    }
+    streets
 }
 
 impl Town {

@@ -1,13 +1,17 @@
 -- The steps of the proof of `read_streets` that are not found by search.
-use Rattle.std.proofs.Common.{rules, arith}
-use Rattle.road.specs.Roads.{street, no_street}
+use Rattle.std.proofs.Common.{◌≡◌, sym, ◌∙◌, arith}
+use Rattle.std.proofs.lemmas.Grind.{common_steps}
+use Rattle.road.specs.Roads.{street}
 use Rattle.road.specs.Numbers.{town_in}
-use Rattle.road.proofs.FromFn.{holds_each}
-use Rattle.road.proofs.Numbers.{streets_read}
+use Rattle.road.proofs.Numbers.{streets_read, street_chunk}
 use Rattle.road.proofs.take.read_streets.Goals as goal
 
-pub returns-clause-streets : goal.returns-clause-streets
-returns-clause-streets c =
+pub loop-k-preserved : goal.loop-k-preserved
+loop-k-preserved c =
     let xs = c.args.numbers.now in
-    let read = holds_each (street (town_in 0 xs)) c.from_fn.ensures.items (λ k y q l called. (search (rules, called.met.0), called.met.1 0)) in
-    streets_read 0 xs c.from_fn.result (omega (arith, c.from_fn.ensures.items.long, c.requires)) (λ k h. read k no_street (omega (arith, c.requires)))
+    let k = c.loop-k.k in
+    let read : c.from.result ≡ street (town_in 0 xs) k = c.from.ensures ∙ sym (street_chunk 0 xs c.as_chunks.result.0.now c.as_chunks.ensures.front k) in
+    grind (arith, common_steps, read, c.loop-k.invariant.1)
+
+pub returns-clause-streets : goal.returns-clause-streets
+returns-clause-streets c = streets_read 0 c.args.numbers.now c.loop-k.streets (omega arith) (λ k h. c.loop-k.invariant.1 k (omega arith))
