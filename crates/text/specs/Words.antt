@@ -1,5 +1,5 @@
 -- The words of a line, and the numbers that they write. Assumes nothing: these are definitions.
-use Rattle.std.specs.Prelude.{ℕ, ◌+◌, ◌-◌, ◌*◌, ◌^◌, ◌&&◌, ◌==◌, Bool, List, [], ◌∷◌, length, take, filter, map, nat_lt, Some, None, Option, if◌then◌else◌, slice_index}
+use Rattle.std.specs.Prelude.{ℕ, ◌+◌, ◌-◌, ◌*◌, ◌^◌, ◌&&◌, ◌||◌, ◌==◌, Bool, List, [], ◌∷◌, length, take, filter, map, nat_lt, Some, None, Option, if◌then◌else◌, slice_index}
 use Rattle.std.specs.Option.{option_and_then}
 use Rattle.std.specs.List.{slice_split, before_first}
 use Rattle.std.specs.Char.{is_newline, is_ascii_whitespace}
@@ -13,6 +13,10 @@ words bytes = filter (λ w. nat_lt 0 (length w)) (slice_split is_ascii_whitespac
 -- '#'
 abbrev pub is_hash : ℕ → Bool
 is_hash c = c == 35
+
+-- what no word goes on over: white space and '#'
+abbrev pub ends_word : ℕ → Bool
+ends_word c = is_ascii_whitespace c || is_hash c
 
 -- the lines of a text in words, each up to its '#' if it has one
 abbrev pub lines_of : List ℕ → List (List (List ℕ))
