@@ -42,10 +42,11 @@ pub(crate) fn words(heap: Global, line: &str) -> Result<Vec<&str>, AllocError>
 pub(crate) fn number(word: &str) -> Option<u64>
     ensures { result ≡ number_in word.now }
 {
-    if word.is_empty() || word.len() >= 20 || !word.bytes().all(|b| b.is_ascii_digit()) {
-        return None;
+    match word.as_bytes() {
+        [b'+', ..] => None,
+        _ if word.len() >= 20 => None,
+        _ => word.parse::<u64>().ok(),
     }
-    word.parse::<u64>().ok()
 }
 
 // The number of a leg: twice the street's, and one more if it is driven back.
