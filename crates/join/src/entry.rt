@@ -44,22 +44,23 @@ impl<'t> LeastDrives<'t> {
             lengths: &costs,
         };
         let tree = Component::tree(&streets, town.town.depot, heap)?;
+        let reached = tree.marks;
         let stars = stars(&town.town, heap)?;
         let problem = Problem {
             streets,
             required: &required,
-            reached: &tree.marks,
+            reached: &reached,
             stars: stars.as_slice(),
         };
         let Solved {
             prices,
             stages,
             tally,
-        } = problem.solve(&tree, heap)?;
+        } = problem.solve(tree, heap)?;
         let Prices { extra, .. } = prices;
         Ok(LeastDrives {
             town,
-            reached: tree.marks,
+            reached,
             extra,
             stages,
             passes: tally.passes,

@@ -20,19 +20,19 @@ pub(crate) struct Solved<'t, 'c> {
 }
 
 impl<'t, 'c> Problem<'t, 'c> {
-    // Finds least prices, from a tree to all that can be come to from the depot.
-    pub(crate) fn solve(&self, tree: &Component, heap: Global) -> Result<Solved<'t, 'c>, AllocError>
-        requires { Rooted self.now tree.now }
+    // Finds least prices, from a tree to all that can be come to from the depot. The room of the tree serves the searches that come after it.
+    pub(crate) fn solve(&self, tree: Component, heap: Global) -> Result<Solved<'t, 'c>, AllocError>
+        requires { Rooted self.now tree }
         ensures problem { IfOk result (λ s. s.prices.problem ≡ self.now) }
         ensures shown { IfOk result (λ s. ShowsLeast s.prices s.stages.items) }
     {
         let start = Start {
             problem: self,
-            tree,
-            home: &self.tree_drives(tree),
+            tree: &tree,
+            home: &self.tree_drives(&tree),
         };
         let mut prices = start.first_prices(heap)?;
-        let mut component = Component::alone(0, heap)?;
+        let mut component = tree;
         let mut tally = Tally {
             passes: 0,
             stages: 0,
