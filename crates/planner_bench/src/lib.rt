@@ -2,7 +2,7 @@
 #![tactic(auto)]
 
 use join::LeastDrives;
-use road::SoundTown;
+use road::{SoundTown, Town};
 use round::{Plan, plan_round};
 use std::alloc::Global;
 
@@ -27,10 +27,12 @@ impl From<LeastDrives<'_>> for Effort {
     }
 }
 
-// Whether the numbers are a town and all of its streets can be come to.
+// Whether the numbers are a town and all of its streets can be come to. In the two steps of `SoundTown::take`, which would move out a town that nobody wants.
 #[unsafe(no_mangle)]
 pub extern "C" fn is_sound(crossings: u64, numbers: &[u64], depot: u64) -> bool {
-    SoundTown::take(crossings, numbers, depot).is_ok()
+    Town::take(crossings, numbers, depot)
+        .and_then(SoundTown::new)
+        .is_ok()
 }
 
 // What it takes for the town of these numbers; no pass if it is turned away.
