@@ -50,7 +50,7 @@ position_else p bs r e = ap (λ o. unwrap_or o (length bs)) e ∙ at (nat_lt (po
     at true h = refl
     at false h = at_end (position_or_len p bs) (length bs) (prefix_len-le-length (λ x. not (p x)) bs) h
 
--- the same behind a word: what follows it is the end, '#' or white space
+-- a byte of a word is no '#' and no white space
 hash_in_word : (c : ℕ) → ends_word c ≡ false → is_hash c ≡ false
 hash_in_word c e = (or_parts (is_ascii_whitespace c) (is_hash c) e).1
 
@@ -65,24 +65,28 @@ hash_behind [] bs in_word = refl
 hash_behind (c ∷ cs) bs in_word =
     other_first c (cs ++ bs) (hash_in_word c (in_word 0 c (omega arith))) ∙ ap (λ z. c ∷ z) (hash_behind cs bs (λ k d below. in_word (suc k) d (omega arith)))
 
-word_alone : (x : List ℕ) → 0 < length x → All (λ c. ends_word c ≡ false) x → words (x ++ []) ≡ x ∷ []
-word_alone x some in_word =
-    ap words (append-nil x) ∙ ap (filter some_bytes) (slice_split_none is_ascii_whitespace x (λ k d below. white_in_word (get_or x k d) (in_word k d below))) ∙ cond-true (some_bytes x) _ _ (lt-ltb _ _ some)
+-- a word alone, and a word before white space
+no_white : (x : List ℕ) → All (λ c. ends_word c ≡ false) x → All (λ c. is_ascii_whitespace c ≡ false) x
+no_white x in_word k d below = white_in_word (get_or x k d) (in_word k d below)
 
+pub word_alone : (x : List ℕ) → 0 < length x → All (λ c. ends_word c ≡ false) x → words x ≡ x ∷ []
+word_alone x some in_word = ap (filter some_bytes) (slice_split_none is_ascii_whitespace x (no_white x in_word)) ∙ cond-true (some_bytes x) _ _ (lt-ltb _ _ some)
+
+pub word_more : (x : List ℕ) (c : ℕ) (bs : List ℕ) → 0 < length x → All (λ c. ends_word c ≡ false) x → is_ascii_whitespace c ≡ true → words (x ++ c ∷ bs) ≡ x ∷ words bs
+word_more x c bs some in_word white = ap (filter some_bytes) (slice_split_at is_ascii_whitespace x c bs (no_white x in_word) white) ∙ cond-true (some_bytes x) _ _ (lt-ltb _ _ some)
+
+-- a word of a line: what follows it is the end, '#' or white space
 words_word : (x bs : List ℕ) → 0 < length x → All (λ c. ends_word c ≡ false) x → (0 < length bs → ends_word (get_or bs 0 0) ≡ true) → before_hash (x ++ bs) ≡ x ∷ before_hash bs
-words_word x [] some in_word ends = ap words (hash_behind x [] in_word) ∙ word_alone x some in_word
+words_word x [] some in_word ends = ap words (hash_behind x [] in_word ∙ append-nil x) ∙ word_alone x some in_word
 words_word x (c ∷ cs) some in_word ends = at (is_hash c) refl
   where
     at : (b : Bool) → is_hash c ≡ b → before_hash (x ++ c ∷ cs) ≡ x ∷ before_hash (c ∷ cs)
     at true e =
         let front : before_first is_hash (c ∷ cs) ≡ [] = hash_first c cs e in
-        ap words (hash_behind x (c ∷ cs) in_word ∙ ap (λ z. x ++ z) front) ∙ word_alone x some in_word ∙ ap (λ z. x ∷ words z) (sym front)
+        ap words (hash_behind x (c ∷ cs) in_word ∙ ap (λ z. x ++ z) front ∙ append-nil x) ∙ word_alone x some in_word ∙ ap (λ z. x ∷ words z) (sym front)
     at false e =
         let white : is_ascii_whitespace c ≡ true = white_end c (ends (omega arith)) e in
-        ap words (hash_behind x (c ∷ cs) in_word ∙ ap (λ z. x ++ z) (other_first c cs e))
-        ∙ ap (filter some_bytes) (slice_split_at is_ascii_whitespace x c (before_first is_hash cs) (λ k d below. white_in_word (get_or x k d) (in_word k d below)) white)
-        ∙ cond-true (some_bytes x) _ _ (lt-ltb _ _ some)
-        ∙ ap (λ z. x ∷ z) (sym (white_first c cs white))
+        ap words (hash_behind x (c ∷ cs) in_word ∙ ap (λ z. x ++ z) (other_first c cs e)) ∙ word_more x c (before_first is_hash cs) some in_word white ∙ ap (λ z. x ∷ z) (sym (white_first c cs white))
 
 -- a line that has no white space at its start any more
 pub trimmed : (bs rest : List ℕ) → IsTrimAsciiStart bs rest → before_hash rest ≡ before_hash bs

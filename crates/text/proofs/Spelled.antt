@@ -1,19 +1,20 @@
 -- Words and lines that are written are read back. Assumes nothing.
-use Rattle.std.proofs.Common.{◌≡◌, ℕ, ◌<◌, Bool, true, false, not, ◌||◌, cond, ltb, List, [], ◌∷◌, ◌++◌, map, length, get_or, refl, ap, ◌∙◌, append_assoc, append-nil, arith}
-use Rattle.std.specs.List.{All, AllByRecursion, list_all, flat_map, filter, slice_split, onto_first, before_first, position_or_len}
-use Rattle.std.specs.Char.{is_newline, is_ascii_whitespace}
+use Rattle.std.proofs.Common.{◌≡◌, ℕ, ◌<◌, Bool, true, false, not, ◌||◌, cond, List, [], ◌∷◌, ◌++◌, map, length, get_or, refl, ap, ◌∙◌, append_assoc, append-nil, arith}
+use Rattle.std.specs.List.{All, AllByRecursion, list_all, flat_map, slice_split, onto_first, before_first, position_or_len}
+use Rattle.std.specs.Char.{is_newline}
 use Rattle.std.proofs.lemmas.List.{take_all, map-append}
 use Rattle.std.proofs.lemmas.List.Elements.{All-weaker}
 use Rattle.std.proofs.lemmas.List.Sums.{AllPass-from_list_all, list_all-from_AllPass, position_or_len_is}
 use Rattle.std.proofs.lemmas.List.Folds.{list_all-append}
-use Rattle.std.proofs.lemmas.List.Splits.{slice_split_none, slice_split_at, length-slice_split}
-use Rattle.std.proofs.lemmas.Bool.{and_from, or_parts, not-true, lt-ltb, cond-true}
+use Rattle.std.proofs.lemmas.List.Splits.{slice_split_none, length-slice_split}
+use Rattle.std.proofs.lemmas.Bool.{and_from, or_parts, not-true}
 use Rattle.std.proofs.lemmas.Bool.Decides.{nat_tests}
-use Rattle.text.specs.Words.{words, is_hash, lines_of}
+use Rattle.text.specs.Words.{words, is_hash, ends_word, lines_of}
+use Rattle.text.proofs.Cutting.{word_alone, word_more}
 
 -- a byte of a word: no white space, and no '#'
 abbrev pub in_word : ℕ → Bool
-in_word c = not (is_ascii_whitespace c || is_hash c)
+in_word c = not (ends_word c)
 
 -- a byte of a line: no newline, and no '#'
 abbrev pub in_line : ℕ → Bool
@@ -26,30 +27,16 @@ pub record Word (w : List ℕ) : Type 0 where
 line_word : (c : ℕ) → in_word c ≡ true → in_line c ≡ true
 line_word c h = grind (arith, nat_tests)
 
-space_word : (c : ℕ) → in_word c ≡ true → is_ascii_whitespace c ≡ false
-space_word c h = (or_parts (is_ascii_whitespace c) (is_hash c) (not-true _ h)).0
-
-no_space : (w : List ℕ) → list_all in_word w ≡ true → All (λ c. is_ascii_whitespace c ≡ false) w
-no_space w h = All-weaker (λ c. in_word c ≡ true) (λ c. is_ascii_whitespace c ≡ false) space_word w (AllPass-from_list_all in_word w h)
-
--- a word alone, and a word before a space
-keeps : (w : List ℕ) (vs : List (List ℕ)) → Word w → filter (λ u. ltb 0 (length u)) (w ∷ vs) ≡ w ∷ filter (λ u. ltb 0 (length u)) vs
-keeps w vs h = cond-true (ltb 0 (length w)) (w ∷ filter (λ u. ltb 0 (length u)) vs) (filter (λ u. ltb 0 (length u)) vs) (lt-ltb 0 (length w) h.full)
-
-words_one : (w : List ℕ) → Word w → words w ≡ w ∷ []
-words_one w h = ap (filter (λ u. ltb 0 (length u))) (slice_split_none is_ascii_whitespace w (no_space w h.in_word_all)) ∙ keeps w [] h
-
-words_more : (w rest : List ℕ) → Word w → words (w ++ 32 ∷ rest) ≡ w ∷ words rest
-words_more w rest h =
-    ap (filter (λ u. ltb 0 (length u))) (slice_split_at is_ascii_whitespace w 32 rest (no_space w h.in_word_all) refl) ∙ keeps w (slice_split is_ascii_whitespace rest) h
+no_end : (w : List ℕ) → list_all in_word w ≡ true → All (λ c. ends_word c ≡ false) w
+no_end w h = All-weaker (λ c. in_word c ≡ true) (λ c. ends_word c ≡ false) (λ c e. not-true (ends_word c) e) w (AllPass-from_list_all in_word w h)
 
 -- words, each behind a space
 abbrev pub spaced : List (List ℕ) → List ℕ
 spaced vs = flat_map (λ v. 32 ∷ v) vs
 
 pub words_spelled : (w : List ℕ) (vs : List (List ℕ)) → Word w → AllByRecursion Word vs → words (w ++ spaced vs) ≡ w ∷ vs
-words_spelled w [] h hs = ap words (append-nil w) ∙ words_one w h
-words_spelled w (v ∷ vs) h hs = words_more w (v ++ spaced vs) h ∙ ap (λ us. w ∷ us) (words_spelled v vs hs.0 hs.1)
+words_spelled w [] h hs = ap words (append-nil w) ∙ word_alone w h.full (no_end w h.in_word_all)
+words_spelled w (v ∷ vs) h hs = word_more w 32 (v ++ spaced vs) h.full (no_end w h.in_word_all) refl ∙ ap (λ us. w ∷ us) (words_spelled v vs hs.0 hs.1)
 
 -- a newline ends a line
 onto_front : {X : Type 0} (x : X) (ps qs : List (List X)) → 0 < length ps → onto_first x (ps ++ qs) ≡ onto_first x ps ++ qs
