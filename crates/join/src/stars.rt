@@ -69,7 +69,7 @@ impl Problem<'_, '_> {
     pub(crate) fn legs_out(&self, marks: &[bool; 100], heap: Global) -> Result<Vec<Leg>, AllocError>
         ensures { IfOk result (λ legs. Bordered (town_in self.now) (marked marks.now) legs.items) }
     {
-        let mut legs = Vec::with_capacity(heap, 40)?;
+        let mut legs = Vec::with_capacity(heap, 16)?;
         for v in 0..self.streets.town.crossings {
             if marks[v] {
                 self.add_out(marks, v, &mut legs)?;
