@@ -1,5 +1,5 @@
 -- Words that are numbers, and text that is cut into words. Assumes nothing.
-use Rattle.std.proofs.Common.{◌≡◌, ◌≢◌, Bool, ◌⊎◌, inl, inr, refl, ℕ, get_or, take, ◌+◌, ◌-◌, ◌^◌, ◌<◌, ◌≤◌, true, false, List, [], ◌∷◌, ◌++◌, length, Some, None, Result, Ok, Err, OkIff, sym, ap, ◌∙◌, refl, arith}
+use Rattle.std.proofs.Common.{◌≡◌, ◌≢◌, Bool, ◌⊎◌, inl, inr, refl, ℕ, get_or, take, ◌+◌, ◌-◌, ◌^◌, ◌<◌, ◌≤◌, true, false, List, [], ◌∷◌, ◌++◌, length, Some, None, Result, Ok, Err, OkIff, sym, ap, ◌∙◌, arith}
 use Rattle.std.specs.Result.{result_ok}
 use Rattle.std.specs.Str.{all_ascii_digits}
 use Rattle.std.specs.Str.Parse.{digits_value, ParsesUnsigned}
@@ -13,10 +13,11 @@ use Rattle.text.specs.Words.{number_in, leg_in, leg_number}
 pub numerals : IsNumeralModel (λ ds. all_ascii_digits ds ≡ true) (digits_value 10)
 numerals = numerals_by_value _ tells_all_ascii_digits
 
--- a short word is parsed just if it is a number
+-- a short word of digits is a number
 short_number : (w : List ℕ) → length w < 20 → all_ascii_digits w ≡ true → 0 < length w → number_in w ≡ Some (digits_value 10 w)
 short_number w few digits some = cond-true _ _ _ (and_from _ _ (and_from _ _ (lt-ltb _ _ some) (lt-ltb _ _ few)) digits)
 
+-- a short word without a plus is parsed just if it is a number
 pub parsed : {E : Type 0} (w : List ℕ) (r : Result ℕ E) → ParsesUnsigned 64 10 w r → get_or w 0 0 ≢ 43 → length w < 20 → result_ok r ≡ number_in w
 parsed {E} w r h plain few = at r (parse_plain numerals 64 w r h plain)
   where
